@@ -8,7 +8,10 @@ fn main(rt: LibcRuntime) -> Result<(), AnyError> {
     rt.stdin().read_to_end(&mut body)?;
     match body.as_slice() {
         [1, n, s, a] => {
-            println!(rt, "Threshold rule for {n} stations: wide up to {s}, narrow up to {a}.")?;
+            println!(
+                rt,
+                "Threshold rule for {n} stations: wide up to {s}, narrow up to {a}."
+            )?;
         }
         _ => {
             println!(rt, "Refused, number 24: this is not a rule body.")?;

@@ -1,0 +1,10 @@
+use borrow.Author.Needs.{needs}
+use Prim.Native.Nat.{_<_}
+use Rattle.faults.proofs.Digits.{minus-at}
+use Rattle.faults.proofs.stations.StationSet.difference.Needs as need
+
+pub returns : need.returns
+returns c =
+    let p : c .args .self .bits < 65536 = search needs in
+    let q : c .args .other .bits < 65536 = search needs in
+    λ i j. minus-at (c .args .self .bits) (c .args .other .bits) j p q i
