@@ -136,7 +136,7 @@ unfolding ones onesIn
 ones-tally zero x = let e : x % 1 ≡ 0 = omega arith in ap ones e
 ones-tally (suc n) x =
     let f : ones (x % 2 ^ suc n) ≡ ones (x / 2 ^ n % 2) + ones (x % 2 ^ n)
-          = ap ones (top-digit x n) ∙ ones-cat n (x / 2 ^ n % 2) (x % 2 ^ n) (mod-lt x (pow-pos n)) in
+    = ap ones (top-digit x n) ∙ ones-cat n (x / 2 ^ n % 2) (x % 2 ^ n) (mod-lt x (pow-pos n)) in
     let d = ones-digit (x / 2 ^ n % 2) (mod-lt (x / 2 ^ n) (omega arith)) in
     let t = digit-at x n in
     let r = ones-tally n x in
@@ -146,7 +146,7 @@ pub number-holds : (n x : ℕ) → number n (holds x) ≡ x % 2 ^ n
 number-holds zero x = omega arith
 number-holds (suc n) x =
     let d : cond (holds x n) (2 ^ n) 0 ≡ (x / 2 ^ n % 2) * 2 ^ n
-          = scaled (holds x n) (2 ^ n) ∙ ap (λ (k : ℕ). k * 2 ^ n) (digit-at x n) in
+    = scaled (holds x n) (2 ^ n) ∙ ap (λ (k : ℕ). k * 2 ^ n) (digit-at x n) in
     let r = number-holds n x in
     let t = top-digit x n in
     omega arith

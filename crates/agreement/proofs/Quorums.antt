@@ -45,27 +45,28 @@ turned false b p e = refl
 pub quorums-meet : QuorumsMeet
 quorums-meet f l X Y Z x y z =
     some-of (f .n) (without (both X Y) Z)
-      (λ none. l .no-cover (outside X) (outside Y) Z x y z (λ j h. covered-meet (X j) (Y j) (Z j) (none j h)))
+    (λ none. l .no-cover (outside X) (outside Y) Z x y z (λ j h. covered-meet (X j) (Y j) (Z j) (none j h)))
 
 pub quorum-blocks : QuorumBlocks
 quorum-blocks f l X Z x z =
     blocks f (without X Z)
-      (λ w. l .no-cover (outside X) (without X Z) Z x w z (λ j h. covered-part (X j) (Z j)))
+    (λ w. l .no-cover (outside X) (without X Z) Z x w z (λ j h. covered-part (X j) (Z j)))
 
 pub blocking-reaches-out : BlockingReachesOut
 blocking-reaches-out f l X Z x z =
     some-of (f .n) (without X Z)
-      (λ none. clash (l .wide-parts X Z (λ j h. within-rest (X j) (Z j) (none j h)) z) x)
+    (λ none. clash (l .wide-parts X Z (λ j h. within-rest (X j) (Z j) (none j h)) z) x)
 
 pub quorum-reaches-out : QuorumReachesOut
 quorum-reaches-out f l X Z x z =
     some-of (f .n) (without X Z)
-      (λ none. l .no-cover (outside X) Z (λ _. false) x z (l .empty-is-narrow) (λ j h. covered-rest (X j) (Z j) (none j h)))
+    (λ none. l .no-cover (outside X) Z (λ _. false) x z (l .empty-is-narrow) (λ j h. covered-rest (X j) (Z j) (none j h)))
 
 pub rest-suffices : RestSuffices
-rest-suffices f l Z z =
-    (l .wide-parts (outside (outside Z)) Z (λ j h. twice-not (Z j)) z,
-      blocks f (outside Z) (λ w. l .no-cover (outside Z) Z (λ _. false) w z (l .empty-is-narrow) (λ j h. covered-both (Z j))))
+rest-suffices f l Z z = (
+  l .wide-parts (outside (outside Z)) Z (λ j h. twice-not (Z j)) z,
+  blocks f (outside Z) (λ w. l .no-cover (outside Z) Z (λ _. false) w z (l .empty-is-narrow) (λ j h. covered-both (Z j))),
+)
 
 pub one-blocks : OneBlocks
 one-blocks f l X Y Z c z = elim (true-or-false (f .wide X)) [
@@ -74,9 +75,10 @@ one-blocks f l X Y Z c z = elim (true-or-false (f .wide X)) [
 ]
 
 pub larger-too : LargerToo
-larger-too f l X Y p =
-    (l .wide-parts (outside Y) (outside X) (λ j h. turned (X j) (Y j) (p j h)),
-      λ x. blocks f Y (λ y. clash (l .wide-parts X Y p y) x))
+larger-too f l X Y p = (
+  l .wide-parts (outside Y) (outside X) (λ j h. turned (X j) (Y j) (p j h)),
+  λ x. blocks f Y (λ y. clash (l .wide-parts X Y p y) x),
+)
 
 -- a family that has every part of its sets asks only for the stations below n
 pub same-below : (n : ℕ) (family : Family) → PartsToo n family → (X Y : Set) → ((j : ℕ) → j < n → X j ≡ Y j)

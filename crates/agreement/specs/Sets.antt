@@ -14,8 +14,8 @@ holds x zero = eqb (x % 2) 1
 holds x (suc j) = holds (x / 2) j
 
 -- The stations below n.
-abbrev pub first : ℕ → Set
-first n j = ltb j n
+abbrev pub upTo : ℕ → Set
+upTo n j = ltb j n
 
 -- The stations that are in X and in Y.
 abbrev pub both : Set → Set → Set
@@ -23,7 +23,7 @@ both X Y j = X j && Y j
 
 -- The stations of X that lie below n.
 abbrev pub below : ℕ → Set → Set
-below n X = both (first n) X
+below n X = both (upTo n) X
 
 -- The number of the stations below n that are in X.
 abbrev pub number : ℕ → Set → ℕ

@@ -10,8 +10,7 @@ ghost use Rattle.agreement.specs.Sets.{NumbersAreSets, SetsAreNumbers};
 pub fn sets_are_numbers()
     ensures each_number_is_a_set { λ _. ⌜ NumbersAreSets ⌝ }
     ensures each_set_has_a_number { λ _. ⌜ SetsAreNumbers ⌝ }
-{
-}
+{}
 
 /// What the four laws say of quorums and blocking sets, for every pair of families that keeps them.
 pub fn laws_give_quorums()
@@ -23,5 +22,4 @@ pub fn laws_give_quorums()
     ensures one_of_two_blocks { λ _. ⌜ OneBlocks ⌝ }
     ensures larger_sets_too { λ _. ⌜ LargerToo ⌝ }
     ensures stations_from_n_ignored { λ _. ⌜ IgnoresFromN ⌝ }
-{
-}
+{}

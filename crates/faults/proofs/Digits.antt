@@ -37,6 +37,7 @@ masked-at x n j p h = holds-and x (2 ^ min n 16 - 1) j ∙ (ap (λ (b : Bool). h
   where
     within : (j n : ℕ) → j < n → j < 16 → ltb j (min n 16) ≡ true
     within j n h k = grind arith
+
     and-true : (b : Bool) → (b && true) ≡ b
     and-true true = refl
     and-true false = refl
@@ -49,10 +50,11 @@ pub none-below : (x n : ℕ) → x < 2 ^ 16 → eqb (bitAnd x (2 ^ min n 16 - 1)
 none-below x n p = same-truth (eqb m 0) (every n (outside (holds x)))
     (λ t. every-from n (outside (holds x)) (λ j h. ap not (sym (masked-at x n j p h) ∙ (ap (λ (z : ℕ). holds z j) (eqb-true m 0 t) ∙ holds-empty j))))
     (λ t. eq-eqb m 0 (same-number (min n 16) m 0 (masked-lt x n) (pow-pos (min n 16))
-      (λ j h. masked-at x n j p (omega arith) ∙ (not-true (holds x j) (every-at n (outside (holds x)) t j (omega arith)) ∙ sym (holds-empty j)))))
+    (λ j h. masked-at x n j p (omega arith) ∙ (not-true (holds x j) (every-at n (outside (holds x)) t j (omega arith)) ∙ sym (holds-empty j)))))
   where
     m : ℕ
     m = bitAnd x (2 ^ min n 16 - 1)
+
     not-true : (b : Bool) → not b ≡ true → b ≡ false
     not-true b e = grind arith
 

@@ -1,2 +1,6 @@
 pub mod Stations
 pub mod Senses
+pub mod Faults
+pub mod Rules
+pub mod Lists
+pub mod Made

@@ -1,4 +1,9 @@
 //! Fault rules: which sets of guests the own stations tolerate.
 
+pub mod fault;
+pub mod listed;
+pub mod listing;
+pub mod making;
 pub mod rule;
 pub mod stations;
+pub mod threshold;

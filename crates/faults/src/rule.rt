@@ -76,5 +76,4 @@ pub trait FaultRule {
 /// Every fault rule keeps the four laws.
 pub fn keeps_laws<F: FaultRule>(rule: &F)
     ensures { λ _. ⌜ Laws (F·FaultRule .families (now (rule .entry))) ⌝ }
-{
-}
+{}

@@ -4,7 +4,7 @@ ghost use mathlib.Core.Path.{_≡_};
 ghost use mathlib.Core.Bool.{Bool, cond};
 ghost use Prim.Native.Nat.{ℕ, _-_, _^_, _<_, min};
 ghost use lib.Dec.{leb, ltb};
-ghost use Rattle.agreement.specs.Sets.{first, both, below, outside, without, either, only, inside, every, covers, tally};
+ghost use Rattle.agreement.specs.Sets.{upTo, both, below, outside, without, either, only, inside, every, covers, tally};
 ghost use Rattle.faults.specs.Stations.{members};
 
 /// A set of stations with numbers below 16: a number in which station i counts 2^i.
@@ -62,7 +62,7 @@ impl StationSet {
 
     /// The stations below n that are not in the set.
     pub fn rest(self, n: u8) -> StationSet
-        ensures { λ r. ⌜ members r ≡ without (first (min n 16)) (members self) ⌝ }
+        ensures { λ r. ⌜ members r ≡ without (upTo (min n 16)) (members self) ⌝ }
     {
         StationSet::all(n).difference(self)
     }
@@ -79,6 +79,13 @@ impl StationSet {
         ensures { λ r. ⌜ r ≡ inside n (members self) (members other) ⌝ }
     {
         self.difference(other).has_none(n)
+    }
+
+    /// Whether the set has no station from n on: its number is below 2^n.
+    pub fn is_below(self, n: u8) -> bool
+        ensures { λ r. ⌜ r ≡ ltb (self .bits) (2 ^ min n 16) ⌝ }
+    {
+        n >= 16 || self.bits < 1 << n
     }
 
     /// Whether every station below n is in one of three sets.
@@ -103,7 +110,7 @@ impl StationSet {
     }
 
     fn all(n: u8) -> StationSet
-        ensures { λ r. ⌜ members r ≡ first (min n 16) ⌝ }
+        ensures { λ r. ⌜ members r ≡ upTo (min n 16) ⌝ }
     {
         StationSet { bits: mask(n) }
     }

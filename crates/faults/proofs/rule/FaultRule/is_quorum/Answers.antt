@@ -19,5 +19,5 @@ returns g c =
     let X = members (c .args .x) in
     c .is-wide .ensures
     ∙ same-below (f .n) (f .wide) (g .Self·FaultRule·met .«wide_parts» self) (members (c .rest .result)) (outside X)
-      (λ j h. ap (λ (S : Set). S j) (c .rest .ensures)
-        ∙ in-mask j (f .n) (c .size .result) (not (X j)) (c .size .ensures) (g .Self·FaultRule·met .«size_to_10» self) h)
+    (λ j h. ap (λ (S : Set). S j) (c .rest .ensures)
+    ∙ in-mask j (f .n) (c .size .result) (not (X j)) (c .size .ensures) (g .Self·FaultRule·met .«size_to_10» self) h)

@@ -1,0 +1,62 @@
+//! Fault rules by lists of sets.
+
+ghost use mathlib.Core.Path.{_≡_};
+ghost use mathlib.Core.Bool.{Bool, true, false};
+ghost use Prim.Native.Nat.{ℕ, _<_, _≤_};
+ghost use lib.ListN.{length};
+ghost use Rattle.std.specs.Options.{Cases as BySome};
+ghost use Rattle.std.specs.Of.Vec.{vec-items};
+ghost use Rattle.agreement.specs.Sets.{inside};
+ghost use Rattle.faults.specs.Stations.{members};
+ghost use Rattle.faults.specs.Rules.{listed, within};
+ghost use Rattle.faults.specs.Lists.{at, Nested, Apart};
+use crate::rule::FaultRule;
+use crate::stations::StationSet;
+
+/// Guests are tolerable where they lie inside a listed set.
+#[derive(Drop)]
+pub struct Listed {
+    pub(crate) n: u8,
+    pub(crate) wide: Vec<StationSet>,
+    pub(crate) narrow: Vec<StationSet>,
+    ghost low: { 1 ≤ n },
+    ghost high: { n ≤ 10 },
+    ghost some: { 0 < length (vec-items narrow) },
+    ghost nested: { Nested n (vec-items narrow) (vec-items wide) },
+    ghost apart: { Apart n (vec-items narrow) (vec-items wide) },
+}
+
+// The place of the first listed set in which x lies.
+fn first_around(x: StationSet, list: &[StationSet], n: u8) -> Option<usize>
+    ensures { λ r. ⌜ BySome r ((k : ℕ) → k < length (now (list .entry)) → inside n (members x) (members (at (now (list .entry)) k)) ≡ false) (λ i. (i < length (now (list .entry))) × (inside n (members x) (members (at (now (list .entry)) i)) ≡ true)) ⌝ }
+{
+    for (i, set) in list.iter().enumerate() {
+        if x.is_inside(*set, n) {
+            return Some(i);
+        }
+    }
+    None
+}
+
+// Whether x lies inside a listed set.
+pub(crate) fn lies_within(x: StationSet, list: &[StationSet], n: u8) -> bool
+    ensures { λ r. ⌜ r ≡ within n (now (list .entry)) (members x) ⌝ }
+{
+    first_around(x, list, n).is_some()
+}
+
+pub impl FaultRule for Listed as ListedRule {
+    ghost families = { λ t. listed (t .n) (vec-items (t .wide)) (vec-items (t .narrow)) };
+
+    fn size(&self) -> u8 {
+        self.n
+    }
+
+    fn is_wide(&self, x: StationSet) -> bool {
+        lies_within(x, self.wide.as_slice(), self.n)
+    }
+
+    fn is_narrow(&self, x: StationSet) -> bool {
+        lies_within(x, self.narrow.as_slice(), self.n)
+    }
+}
