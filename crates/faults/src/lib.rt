@@ -1,5 +1,6 @@
 //! Fault rules: which sets of guests the own stations tolerate.
 
+pub mod both;
 pub mod fault;
 pub mod listed;
 pub mod listing;
