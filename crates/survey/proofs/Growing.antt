@@ -1,0 +1,47 @@
+-- In a family that has every part of its sets, what cannot grow by one station is largest.
+use mathlib.Core.Path.{_≡_, refl, sym, subst}
+use mathlib.Core.Bool.{Bool, true, false, _||_}
+use mathlib.Core.Logic.{inl, inr}
+use Prim.Native.Nat.{ℕ, _<_}
+use native.Mathlib.Omega.{arith}
+use lib.Dec.{eqb}
+use borrow.Author.Tests.{eqb-true, eq-eqb}
+use Rattle.agreement.specs.Sets.{Set, Part, either, only}
+use Rattle.agreement.specs.Families.{Family, PartsToo}
+use Rattle.agreement.proofs.Tests.{true-or-false, clash}
+use Rattle.survey.specs.Largest.{Largest, Maximal}
+
+-- X with a station of Y lies inside Y where X does
+grown : (n : ℕ) (X Y : Set) (i : ℕ) → Part n X Y → Y i ≡ true → Part n (either X (only i)) Y
+grown n X Y i p y j h e = elim (true-or-false (X j)) [
+  | inl t ↦ p j h t
+  | inr t ↦ subst (λ k. Y k ≡ true) (sym (eqb-true j i (right (X j) (eqb j i) t e))) y
+]
+  where
+    right : (a b : Bool) → a ≡ false → (a || b) ≡ true → b ≡ true
+    right a b p q = grind arith
+
+pub maximal-largest : (n : ℕ) (family : Family) → PartsToo n family → (X : Set) → Maximal n family X → Largest n family X
+maximal-largest n family parts X m = (
+  m .0,
+  λ Y y p j h e. elim (true-or-false (X j)) [
+    | inl t ↦ t
+    | inr t ↦ absurd (clash (parts (either X (only j)) Y (grown n X Y j p e) y) (m .1 j h t))
+  ],
+)
+
+pub largest-maximal : (n : ℕ) (family : Family) (X : Set) → Largest n family X → Maximal n family X
+largest-maximal n family X l = (
+  l .0,
+  λ i h e. elim (true-or-false (family (either X (only i)))) [
+    | inr t ↦ t
+    | inl t ↦ absurd (clash (l .1 (either X (only i)) t (λ j k. or-left (X j) (eqb j i)) i h (or-right (X i) (eqb i i) (eq-eqb i i refl))) e)
+  ],
+)
+  where
+    or-left : (a b : Bool) → a ≡ true → (a || b) ≡ true
+    or-left a b p = rw p refl
+
+    or-right : (a b : Bool) → b ≡ true → (a || b) ≡ true
+    or-right true b p = refl
+    or-right false b p = p

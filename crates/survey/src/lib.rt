@@ -1,0 +1,56 @@
+//! Up to which guests a fault rule tolerates.
+
+ghost use mathlib.Core.Path.{_≡_};
+ghost use mathlib.Core.Bool.{Bool, true, false};
+ghost use Prim.Native.Nat.{ℕ, _^_, _<_};
+ghost use Rattle.std.specs.Of.Vec.{vec-items};
+ghost use Rattle.std.specs.Vec.{made};
+ghost use Rattle.agreement.specs.Sets.{holds, either, only};
+ghost use Rattle.faults.specs.Stations.{members};
+ghost use Rattle.faults.specs.Senses.{family};
+ghost use Rattle.survey.specs.Largest.{Largest, Maximal, Lists};
+use faults::rule::FaultRule;
+use faults::rule::Sense;
+use faults::stations::StationSet;
+use std::alloc::AllocError;
+use std::alloc::Global;
+
+// Whether some set with one station more is tolerable too.
+fn can_grow<F: FaultRule>(rule: &F, sense: Sense, x: StationSet) -> bool
+    ensures yes { λ r. ⌜ (r ≡ true → (i : ℕ) × (i < F·FaultRule .families (now (rule .entry)) .n) × (members x i ≡ false) × (family (F·FaultRule .families (now (rule .entry))) sense (either (members x) (only i)) ≡ true)) ⌝ }
+    ensures none { λ r. ⌜ (r ≡ false → (i : ℕ) → i < F·FaultRule .families (now (rule .entry)) .n → members x i ≡ false → family (F·FaultRule .families (now (rule .entry))) sense (either (members x) (only i)) ≡ false) ⌝ }
+{
+    for station in 0..rule.size() {
+        if !x.has(station) && rule.tolerates(sense, x.with(station)) {
+            return true;
+        }
+    }
+    false
+}
+
+// Whether x is tolerable, and no tolerable set properly contains it.
+fn is_largest<F: FaultRule>(rule: &F, sense: Sense, x: StationSet) -> bool
+    ensures yes { λ r. ⌜ (r ≡ true → Maximal (F·FaultRule .families (now (rule .entry)) .n) (family (F·FaultRule .families (now (rule .entry))) sense) (members x)) ⌝ }
+    ensures none { λ r. ⌜ (r ≡ false → Maximal (F·FaultRule .families (now (rule .entry)) .n) (family (F·FaultRule .families (now (rule .entry))) sense) (members x) → ⊥) ⌝ }
+{
+    rule.tolerates(sense, x) && !can_grow(rule, sense, x)
+}
+
+/// The largest sets that a rule tolerates in one sense: those that no tolerable set properly contains,
+/// each once, in ascending order of their numbers.
+pub fn largest_sets<F: FaultRule>(
+    heap: Global,
+    rule: &F,
+    sense: Sense,
+) -> Result<Vec<StationSet>, AllocError>
+    ensures { λ r. ⌜ made r (λ v. Lists (2 ^ F·FaultRule .families (now (rule .entry)) .n) (λ x. Largest (F·FaultRule .families (now (rule .entry)) .n) (family (F·FaultRule .families (now (rule .entry))) sense) (holds x)) (vec-items v)) ⌝ }
+{
+    let mut found = Vec::new(heap);
+    for bits in 0..1 << rule.size() {
+        let x = StationSet::from_bits(bits);
+        if is_largest(rule, sense, x) {
+            found.push(x)?;
+        }
+    }
+    Ok(found)
+}
