@@ -2,3 +2,4 @@ pub mod Tests
 pub mod Sets
 pub mod Numbers
 pub mod Quorums
+pub mod Places

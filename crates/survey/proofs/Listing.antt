@@ -5,11 +5,11 @@ use mathlib.Core.List.{List, [], _∷_, _++_}
 use mathlib.Core.Logic.{inl, inr}
 use Prim.Native.Nat.{ℕ, suc, _+_, _<_, _≤_}
 use native.Mathlib.Omega.{arith}
-use lib.Dec.{ltb, eqb}
-use lib.ListN.{length, getD, length-append}
-use borrow.Author.Tests.{ltb-true, ltb-false, eqb-true, eqb-false}
-use Rattle.std.proofs.shelf.Lists.{getD-append-left, getD-push}
+use lib.Dec.{eqb}
+use lib.ListN.{length}
+use borrow.Author.Tests.{eqb-true, eqb-false}
 use Rattle.agreement.proofs.Tests.{true-or-false}
+use Rattle.agreement.proofs.Places.{one-more, at-old, at-new, at-each}
 use Rattle.faults.specs.declared.stations.StationSet.{StationSet}
 use Rattle.faults.specs.Lists.{at}
 use Rattle.survey.specs.Largest.{Lists}
@@ -38,13 +38,13 @@ lists-skip k P L l no-more = record {
 pub lists-push : (k : ℕ) (P : ℕ → Type 0) (L : List StationSet) (x : StationSet) → Lists k P L → x .bits ≡ k → P k
     → Lists (k + 1) P (L ++ x ∷ [])
 lists-push k P L x l e p = record {
-  under = λ i h. by-place (λ y. y .bits < k + 1) i h (λ o. let u = l .under i o in omega arith) (omega arith);
-  keep = λ i h. by-place (λ y. P (y .bits)) i h (l .keep i) (subst P (sym e) p);
+  under = each (λ i y. y .bits < k + 1) (λ i o. let u = l .under i o in omega arith) (omega arith);
+  keep = each (λ i y. P (y .bits)) (l .keep) (subst P (sym e) p);
   ascend = λ i j h b.
-      let o : i < length L = let m = more in omega arith in
-      by-place (λ y. at (L ++ x ∷ []) i .bits < y .bits) j b
-      (λ q. rw (old i o) (l .ascend i j h q))
-      (rw (old i o) (let u = l .under i o in omega arith));
+      let o : i < length L = omega (arith, more) in
+      each (λ m y. i < m → at (L ++ x ∷ []) i .bits < y .bits)
+        (λ m q g. rw (old i o) (l .ascend i m g q))
+        (λ g. rw (old i o) (let u = l .under i o in omega arith)) j b h;
   all = λ y h q. elim (true-or-false (eqb y k)) [
     | inl t ↦ (length L, omega (arith, more), ap (λ (z : StationSet). z .bits) here ∙ (e ∙ sym (eqb-true y k t)))
     | inr t ↦ let ne : (y ≡ k → ⊥) = eqb-false y k t in
@@ -54,21 +54,14 @@ lists-push k P L x l e p = record {
 }
   where
     more : length (L ++ x ∷ []) ≡ length L + 1
-    more = length-append L (x ∷ [])
-
+    more = one-more (record { bits = 0 }) L x
     old : (i : ℕ) → i < length L → at (L ++ x ∷ []) i ≡ at L i
-    old i h = getD-append-left L (x ∷ []) (record { bits = 0 }) i h
-
+    old = at-old (record { bits = 0 }) L x
     here : at (L ++ x ∷ []) (length L) ≡ x
-    here = getD-push L x (record { bits = 0 }) (length L) refl
-
-    by-place : (Q : StationSet → Type 0) (i : ℕ) → i < length (L ++ x ∷ []) → (i < length L → Q (at L i)) → Q x
-        → Q (at (L ++ x ∷ []) i)
-    by-place Q i h before last = elim (true-or-false (ltb i (length L))) [
-      | inl t ↦ subst Q (sym (old i (ltb-true i (length L) t))) (before (ltb-true i (length L) t))
-      | inr t ↦ let end : i ≡ length L = let u = ltb-false i (length L) t in omega (arith, more) in
-          subst (λ m. Q (at (L ++ x ∷ []) m)) (sym end) (subst Q (sym here) last)
-    ]
+    here = at-new (record { bits = 0 }) L x
+    each : (Q : ℕ → StationSet → Type 0) → ((i : ℕ) → i < length L → Q i (at L i)) → Q (length L) x
+        → (i : ℕ) → i < length (L ++ x ∷ []) → Q i (at (L ++ x ∷ []) i)
+    each = at-each (record { bits = 0 }) L x
 
 pub lists-same : (k : ℕ) (P Q : ℕ → Type 0) (L : List StationSet) → ((x : ℕ) → P x → Q x) → ((x : ℕ) → Q x → P x)
     → Lists k P L → Lists k Q L

@@ -1,0 +1,4 @@
+//! Rules as bytes.
+
+pub mod body;
+pub mod reading;
