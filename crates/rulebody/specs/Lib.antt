@@ -1,2 +1,4 @@
 pub mod Format
 pub mod Bodies
+pub mod Kinds
+pub mod Making

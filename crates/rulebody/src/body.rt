@@ -6,9 +6,13 @@ use faults::stations::StationSet;
 #[derive(Drop)]
 pub enum RuleBody {
     /// The numbers of a threshold rule.
-    ThresholdBody { n: u8, s: u8, a: u8 },
+    Threshold {
+        n: u8,
+        s: u8,
+        a: u8,
+    },
     /// The size and the two lists of a listed rule.
-    ListedBody {
+    Listed {
         n: u8,
         wide: Vec<StationSet>,
         narrow: Vec<StationSet>,

@@ -1,4 +1,6 @@
 //! Rules as bytes.
 
 pub mod body;
+pub mod making;
 pub mod reading;
+pub mod rule;

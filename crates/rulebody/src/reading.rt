@@ -50,7 +50,12 @@ fn is_listed(bytes: &[u8]) -> bool
 }
 
 // The sets that stand from a place on.
-fn sets_at(heap: Global, bytes: &[u8], from: usize, count: usize) -> Result<Vec<StationSet>, AllocError>
+fn sets_at(
+    heap: Global,
+    bytes: &[u8],
+    from: usize,
+    count: usize,
+) -> Result<Vec<StationSet>, AllocError>
     requires { ⌜ from + 2 * count ≤ length (now bytes) ⌝ }
     ensures { λ r. ⌜ made r (λ v. SetsAt (now (bytes .entry)) from count (vec-items v)) ⌝ }
 {
@@ -67,7 +72,7 @@ impl RuleBody {
         ensures { λ r. ⌜ BodyRead (now (bytes .entry)) r ⌝ }
     {
         if let [1, n, s, a] = bytes {
-            return Ok(RuleBody::ThresholdBody {
+            return Ok(RuleBody::Threshold {
                 n: *n,
                 s: *s,
                 a: *a,
@@ -79,7 +84,7 @@ impl RuleBody {
         let middle = 4 + 2 * bytes[2] as usize;
         let wide = sets_at(heap, bytes, 4, bytes[2] as usize)?;
         let narrow = sets_at(heap, bytes, middle, bytes[3] as usize)?;
-        Ok(RuleBody::ListedBody {
+        Ok(RuleBody::Listed {
             n: bytes[1],
             wide,
             narrow,

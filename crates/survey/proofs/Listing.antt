@@ -43,8 +43,8 @@ lists-push k P L x l e p = record {
   ascend = λ i j h b.
       let o : i < length L = omega (arith, more) in
       each (λ m y. i < m → at (L ++ x ∷ []) i .bits < y .bits)
-        (λ m q g. rw (old i o) (l .ascend i m g q))
-        (λ g. rw (old i o) (let u = l .under i o in omega arith)) j b h;
+      (λ m q g. rw (old i o) (l .ascend i m g q))
+      (λ g. rw (old i o) (let u = l .under i o in omega arith)) j b h;
   all = λ y h q. elim (true-or-false (eqb y k)) [
     | inl t ↦ (length L, omega (arith, more), ap (λ (z : StationSet). z .bits) here ∙ (e ∙ sym (eqb-true y k t)))
     | inr t ↦ let ne : (y ≡ k → ⊥) = eqb-false y k t in
@@ -55,10 +55,13 @@ lists-push k P L x l e p = record {
   where
     more : length (L ++ x ∷ []) ≡ length L + 1
     more = one-more (record { bits = 0 }) L x
+
     old : (i : ℕ) → i < length L → at (L ++ x ∷ []) i ≡ at L i
     old = at-old (record { bits = 0 }) L x
+
     here : at (L ++ x ∷ []) (length L) ≡ x
     here = at-new (record { bits = 0 }) L x
+
     each : (Q : ℕ → StationSet → Type 0) → ((i : ℕ) → i < length L → Q i (at L i)) → Q (length L) x
         → (i : ℕ) → i < length (L ++ x ∷ []) → Q i (at (L ++ x ∷ []) i)
     each = at-each (record { bits = 0 }) L x

@@ -1,26 +1,20 @@
-use native.Mathlib.Omega.{arith}
-use borrow.Author.Tests.{leb-true, le-leb}
-use Rattle.agreement.specs.Sets.{tally}
-use Rattle.agreement.proofs.Sets.{tally-part, tally-cover, tally-empty}
+use Rattle.agreement.specs.Families.{Laws}
+use Rattle.faults.specs.declared.threshold.Threshold.{Threshold}
+use Rattle.faults.specs.Rules.{threshold}
+use Rattle.faults.proofs.Laws.{threshold-laws}
 use Rattle.faults.proofs.threshold.ThresholdRule.the-impl.Needs as need
 
+laws : (t : Threshold) → Laws (threshold (t .n) (t .s) (t .a))
+laws t = threshold-laws (t .n) (t .s) (t .a) (t .nested) (t .apart)
+
 pub wide-parts-law : need.wide-parts-law
-wide-parts-law f X Y p h =
-    le-leb (tally (f .n) X) (f .s) (omega (arith, tally-part (f .n) X Y p, leb-true (tally (f .n) Y) (f .s) h))
+wide-parts-law t = laws t .wide-parts
 
 pub narrow-parts-law : need.narrow-parts-law
-narrow-parts-law f X Y p h =
-    le-leb (tally (f .n) X) (f .a) (omega (arith, tally-part (f .n) X Y p, leb-true (tally (f .n) Y) (f .a) h))
+narrow-parts-law t = laws t .narrow-parts
 
 pub empty-is-narrow-law : need.empty-is-narrow-law
-empty-is-narrow-law f = le-leb _ _ (omega (arith, tally-empty (f .n)))
+empty-is-narrow-law t = laws t .empty-is-narrow
 
 pub no-cover-law : need.no-cover-law
-no-cover-law f X Y Z x y z c =
-    omega (
-      arith,
-      tally-cover (f .n) X Y Z c,
-      leb-true (tally (f .n) X) (f .s) x,
-      leb-true (tally (f .n) Y) (f .s) y,
-      leb-true (tally (f .n) Z) (f .a) z,
-    )
+no-cover-law t = laws t .no-cover
