@@ -11,8 +11,8 @@ use Rattle.agreement.specs.Sets.{Set, tally}
 use Rattle.agreement.specs.Families.{PartsToo, Laws}
 use Rattle.agreement.proofs.Tests.{clash, and-both}
 use Rattle.agreement.proofs.Sets.{tally-part, tally-cover, tally-empty, inside-part, part-inside}
-use Rattle.faults.specs.declared.stations.StationSet.{StationSet}
-use Rattle.faults.specs.Stations.{members}
+use Rattle.stations.specs.declared.StationSet.{StationSet}
+use Rattle.stations.specs.Members.{members}
 use Rattle.faults.specs.Rules.{threshold, listed}
 use Rattle.faults.specs.Lists.{at, Nested, Apart}
 use Rattle.faults.proofs.Within.{within-at, within-some, within-parts, cover-larger}

@@ -10,8 +10,8 @@ use Rattle.agreement.specs.Sets.{Set, Cover, either, inside, covers}
 use Rattle.agreement.specs.Families.{PartsToo}
 use Rattle.agreement.proofs.Tests.{true-or-false, clash}
 use Rattle.agreement.proofs.Sets.{inside-part, part-inside, every-from}
-use Rattle.faults.specs.declared.stations.StationSet.{StationSet}
-use Rattle.faults.specs.Stations.{members}
+use Rattle.stations.specs.declared.StationSet.{StationSet}
+use Rattle.stations.specs.Members.{members}
 use Rattle.faults.specs.Rules.{within}
 use Rattle.faults.specs.Lists.{at}
 

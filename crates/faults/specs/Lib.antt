@@ -1,4 +1,3 @@
-pub mod Stations
 pub mod Senses
 pub mod Faults
 pub mod Rules

@@ -6,9 +6,9 @@ use Prim.Native.Nat.{ℕ, _^_, _<_, _≤_}
 use lib.Dec.{ltb}
 use lib.ListN.{length, getD}
 use Rattle.agreement.specs.Sets.{covers}
-use Rattle.faults.specs.declared.stations.StationSet.{StationSet}
+use Rattle.stations.specs.declared.StationSet.{StationSet}
 use Rattle.faults.specs.declared.fault.Three.{Three}
-use Rattle.faults.specs.Stations.{members}
+use Rattle.stations.specs.Members.{members}
 use Rattle.faults.specs.Rules.{within}
 
 -- A rule has one to ten stations.

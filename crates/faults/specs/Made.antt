@@ -10,7 +10,7 @@ use Rattle.std.specs.declared.result.Result.{Result}
 use Rattle.std.specs.declared.result.Result.the-variants.{Ok, Err}
 use Rattle.faults.specs.declared.fault.Fault.{Fault}
 use Rattle.faults.specs.declared.fault.Fault.the-variants.{Size, NarrowBeyondWide, Cover, CoveredBy, Lists, Form, Memory}
-use Rattle.faults.specs.declared.stations.StationSet.{StationSet}
+use Rattle.stations.specs.declared.StationSet.{StationSet}
 use Rattle.faults.specs.declared.threshold.Threshold.{Threshold}
 use Rattle.faults.specs.declared.listed.Listed.{Listed}
 use Rattle.faults.specs.Lists.{Sized, Proper, Nested, Apart, FirstThree}

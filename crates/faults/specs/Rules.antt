@@ -5,8 +5,8 @@ use Prim.Native.Nat.{ℕ}
 use lib.Dec.{leb}
 use Rattle.agreement.specs.Sets.{Set, tally, below, inside}
 use Rattle.agreement.specs.Families.{Family, Families}
-use Rattle.faults.specs.declared.stations.StationSet.{StationSet}
-use Rattle.faults.specs.Stations.{members}
+use Rattle.stations.specs.declared.StationSet.{StationSet}
+use Rattle.stations.specs.Members.{members}
 
 -- By threshold: wide is at most s members, narrow at most a.
 abbrev pub threshold : ℕ → ℕ → ℕ → Families

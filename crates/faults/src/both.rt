@@ -5,7 +5,7 @@ ghost use mathlib.Core.Bool.{Bool};
 ghost use Prim.Native.Nat.{ℕ};
 ghost use Rattle.faults.specs.Rules.{both-of};
 use crate::rule::FaultRule;
-use crate::stations::StationSet;
+use stations::StationSet;
 
 /// What both sides tolerate, over the stations of the first side.
 #[derive(Drop)]

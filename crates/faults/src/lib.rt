@@ -6,5 +6,7 @@ pub mod listed;
 pub mod listing;
 pub mod making;
 pub mod rule;
-pub mod stations;
+
+pub use stations::StationSet;
+
 pub mod threshold;

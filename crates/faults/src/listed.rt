@@ -7,11 +7,11 @@ ghost use lib.ListN.{length};
 ghost use Rattle.std.specs.Options.{Cases as BySome};
 ghost use Rattle.std.specs.Of.Vec.{vec-items};
 ghost use Rattle.agreement.specs.Sets.{inside};
-ghost use Rattle.faults.specs.Stations.{members};
+ghost use Rattle.stations.specs.Members.{members};
 ghost use Rattle.faults.specs.Rules.{listed, within};
 ghost use Rattle.faults.specs.Lists.{at, Nested, Apart};
 use crate::rule::FaultRule;
-use crate::stations::StationSet;
+use stations::StationSet;
 
 /// Guests are tolerable where they lie inside a listed set.
 #[derive(Drop)]

@@ -6,7 +6,7 @@ ghost use Prim.Native.Nat.{ℕ, _^_, _<_, _≤_};
 ghost use lib.ListN.{length};
 ghost use Rattle.std.specs.Of.Vec.{vec-items};
 ghost use Rattle.std.specs.Options.{Cases as BySome};
-ghost use Rattle.faults.specs.Stations.{members};
+ghost use Rattle.stations.specs.Members.{members};
 ghost use Rattle.faults.specs.Rules.{within};
 ghost use Rattle.faults.specs.Lists.{at, AllBelow, Proper, Nested, Apart, FirstThree};
 ghost use Rattle.faults.specs.Made.{ListedFault, ListedMade};
@@ -15,7 +15,7 @@ use crate::fault::FaultFromAllocError;
 use crate::fault::Three;
 use crate::listed::Listed;
 use crate::listed::lies_within;
-use crate::stations::StationSet;
+use stations::StationSet;
 use std::alloc::Global;
 
 // Whether each set of a list lies inside a set of another.
@@ -32,18 +32,18 @@ fn is_nested(list: &[StationSet], hosts: &[StationSet], n: u8) -> bool
 }
 
 // The first narrow and two wide sets, by place, that together hold every station.
-fn first_cover(narrow: &[StationSet], wide: &[StationSet], n: u8) -> Option<Three>
-    ensures { λ r. ⌜ BySome r (Apart n (now (narrow .entry)) (now (wide .entry))) (λ t. FirstThree n (now (narrow .entry)) (now (wide .entry)) t) ⌝ }
+fn first_cover(narrow_sets: &[StationSet], wide_sets: &[StationSet], n: u8) -> Option<Three>
+    ensures { λ r. ⌜ BySome r (Apart n (now («narrow_sets» .entry)) (now («wide_sets» .entry))) (λ t. FirstThree n (now («narrow_sets» .entry)) (now («wide_sets» .entry)) t) ⌝ }
 {
     'search: {
-        for (i, x) in narrow.iter().enumerate() {
-            for (j, y) in wide.iter().enumerate() {
-                for (k, z) in wide.iter().enumerate() {
+        for (narrow, x) in narrow_sets.iter().enumerate() {
+            for (wide, y) in wide_sets.iter().enumerate() {
+                for (other, z) in wide_sets.iter().enumerate() {
                     if StationSet::cover(*x, *y, *z, n) {
                         break 'search Some(Three {
-                            narrow: i,
-                            wide: j,
-                            other: k,
+                            narrow,
+                            wide,
+                            other,
                         });
                     }
                 }

@@ -5,13 +5,13 @@ ghost use mathlib.Core.Bool.{Bool, not};
 ghost use Prim.Native.Nat.{ℕ, _≤_};
 ghost use Rattle.agreement.specs.Sets.{outside};
 ghost use Rattle.agreement.specs.Families.{Families, Laws, PartsToo, NarrowIsWide, EmptyIsNarrow, NoCover};
-ghost use Rattle.faults.specs.Stations.{members};
+ghost use Rattle.stations.specs.Members.{members};
 ghost use Rattle.faults.specs.Senses.{family};
-use crate::stations::StationSet;
+use stations::StationSet;
 
 /// The two senses in which guests are tolerated: wide, own stations that open alike decide so;
 /// narrow, no two own stations decide differently either.
-#[derive(Clone, Copy, PartialEq, Eq, Debug)]
+#[derive(Clone, Copy)]
 pub enum Sense {
     Wide,
     Narrow,

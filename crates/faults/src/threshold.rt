@@ -5,7 +5,7 @@ ghost use mathlib.Core.Bool.{Bool};
 ghost use Prim.Native.Nat.{ℕ, _+_, _*_, _<_, _≤_};
 ghost use Rattle.faults.specs.Rules.{threshold};
 use crate::rule::FaultRule;
-use crate::stations::StationSet;
+use stations::StationSet;
 
 /// Any s stations may be guests in the wide sense, and any a in the narrow one.
 #[derive(Clone, Copy)]

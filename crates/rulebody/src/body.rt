@@ -1,6 +1,6 @@
 //! What a rule body says.
 
-use faults::stations::StationSet;
+use stations::StationSet;
 
 /// A rule as it is written, which may still be refused.
 #[derive(Drop)]

@@ -11,7 +11,7 @@ ghost use Rattle.rulebody.specs.Bodies.{BodyRead};
 use crate::body::RuleBody;
 use faults::fault::Fault;
 use faults::fault::FaultFromAllocError;
-use faults::stations::StationSet;
+use stations::StationSet;
 use std::alloc::AllocError;
 use std::alloc::Global;
 

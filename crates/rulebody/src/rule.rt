@@ -7,9 +7,9 @@ ghost use Rattle.rulebody.specs.Kinds.{meant};
 use faults::listed::Listed;
 use faults::listed::ListedRule;
 use faults::rule::FaultRule;
-use faults::stations::StationSet;
 use faults::threshold::Threshold;
 use faults::threshold::ThresholdRule;
+use stations::StationSet;
 
 /// A fault rule of one of the two kinds that a rule body can say.
 #[derive(Drop)]

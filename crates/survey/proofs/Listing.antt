@@ -10,7 +10,7 @@ use lib.ListN.{length}
 use borrow.Author.Tests.{eqb-true, eqb-false}
 use Rattle.agreement.proofs.Tests.{true-or-false}
 use Rattle.agreement.proofs.Places.{one-more, at-old, at-new, at-each}
-use Rattle.faults.specs.declared.stations.StationSet.{StationSet}
+use Rattle.stations.specs.declared.StationSet.{StationSet}
 use Rattle.faults.specs.Lists.{at}
 use Rattle.survey.specs.Largest.{Lists}
 

@@ -6,7 +6,7 @@ use Prim.Native.Nat.{ℕ, _<_}
 use lib.ListN.{length}
 use Rattle.agreement.specs.Sets.{Set, Part, either, only}
 use Rattle.agreement.specs.Families.{Family}
-use Rattle.faults.specs.declared.stations.StationSet.{StationSet}
+use Rattle.stations.specs.declared.StationSet.{StationSet}
 use Rattle.faults.specs.Lists.{at}
 
 -- X is tolerable, and every tolerable set around X is no larger: none properly contains it.

@@ -6,12 +6,12 @@ ghost use Prim.Native.Nat.{ℕ, _^_, _<_};
 ghost use Rattle.std.specs.Of.Vec.{vec-items};
 ghost use Rattle.std.specs.Vec.{made};
 ghost use Rattle.agreement.specs.Sets.{holds, either, only};
-ghost use Rattle.faults.specs.Stations.{members};
+ghost use Rattle.stations.specs.Members.{members};
 ghost use Rattle.faults.specs.Senses.{family};
 ghost use Rattle.survey.specs.Largest.{Largest, Maximal, Lists};
 use faults::rule::FaultRule;
 use faults::rule::Sense;
-use faults::stations::StationSet;
+use stations::StationSet;
 use std::alloc::AllocError;
 use std::alloc::Global;
 

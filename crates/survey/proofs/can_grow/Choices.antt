@@ -2,7 +2,7 @@ use mathlib.Core.Path.{_≡_}
 use mathlib.Core.Bool.{false}
 use Prim.Native.Nat.{ℕ, _<_}
 use Rattle.agreement.specs.Sets.{either, only}
-use Rattle.faults.specs.Stations.{members}
+use Rattle.stations.specs.Members.{members}
 use Rattle.faults.specs.Senses.{family}
 use Rattle.survey.proofs.can_grow.Given as given
 

@@ -6,7 +6,7 @@ use Prim.Native.Nat.{ℕ, _+_, _*_, _%_, _^_, _≤_}
 use lib.Pow.{pow-mono}
 use Rattle.std.specs.Of.Vec.{vec-items}
 use Rattle.agreement.specs.Sets.{holds}
-use Rattle.faults.specs.declared.stations.StationSet.{StationSet}
+use Rattle.stations.specs.declared.StationSet.{StationSet}
 use Rattle.faults.specs.declared.rule.Sense.{Sense}
 use Rattle.faults.specs.declared.rule.Sense.the-variants.{Wide, Narrow}
 use Rattle.faults.specs.Senses.{family}

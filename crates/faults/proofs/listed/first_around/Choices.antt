@@ -2,7 +2,7 @@ use mathlib.Core.Path.{_≡_}
 use mathlib.Core.Bool.{false}
 use Prim.Native.Nat.{ℕ, _<_}
 use Rattle.agreement.specs.Sets.{inside}
-use Rattle.faults.specs.Stations.{members}
+use Rattle.stations.specs.Members.{members}
 use Rattle.faults.specs.Lists.{at}
 use Rattle.faults.proofs.listed.first_around.Given as given
 

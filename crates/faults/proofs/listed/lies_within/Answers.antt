@@ -7,8 +7,8 @@ use Rattle.std.specs.Options.{isSome, Cases as BySome}
 use Rattle.std.specs.declared.option.Option.{Option}
 use Rattle.std.specs.declared.option.Option.the-variants.{Some, None}
 use Rattle.agreement.specs.Sets.{Set, inside}
-use Rattle.faults.specs.declared.stations.StationSet.{StationSet}
-use Rattle.faults.specs.Stations.{members}
+use Rattle.stations.specs.declared.StationSet.{StationSet}
+use Rattle.stations.specs.Members.{members}
 use Rattle.faults.specs.Rules.{within}
 use Rattle.faults.specs.Lists.{at}
 use Rattle.faults.proofs.Within.{within-at, within-none}

@@ -5,12 +5,12 @@ use lib.ListN.{length}
 use Rattle.faults.specs.Lists.{covered}
 use Rattle.faults.proofs.listing.first_cover.Given as given
 
-abbrev pub Inv-loop-i : given.InvT-loop-i
-Inv-loop-i l =
-    (x y z : ℕ) → x < l .i → y < length (l .wide) → z < length (l .wide) → covered (l .n) (l .narrow) (l .wide) x y z ≡ false
+abbrev pub Inv-loop-narrow : given.InvT-loop-narrow
+Inv-loop-narrow l =
+    (x y z : ℕ) → x < l .narrow → y < length (l .wide-sets) → z < length (l .wide-sets) → covered (l .n) (l .narrow-sets) (l .wide-sets) x y z ≡ false
 
-abbrev pub Inv-loop-j : given.InvT-loop-j
-Inv-loop-j l = (y z : ℕ) → y < l .j → z < length (l .wide) → covered (l .n) (l .narrow) (l .wide) (l .i) y z ≡ false
+abbrev pub Inv-loop-wide : given.InvT-loop-wide
+Inv-loop-wide l = (y z : ℕ) → y < l .wide → z < length (l .wide-sets) → covered (l .n) (l .narrow-sets) (l .wide-sets) (l .narrow) y z ≡ false
 
-abbrev pub Inv-loop-k : given.InvT-loop-k
-Inv-loop-k l = (z : ℕ) → z < l .k → covered (l .n) (l .narrow) (l .wide) (l .i) (l .j) z ≡ false
+abbrev pub Inv-loop-other : given.InvT-loop-other
+Inv-loop-other l = (z : ℕ) → z < l .other → covered (l .n) (l .narrow-sets) (l .wide-sets) (l .narrow) (l .wide) z ≡ false

@@ -1,7 +1,7 @@
 use mathlib.Core.Path.{_≡_}
 use mathlib.Core.Bool.{true}
 use Prim.Native.Nat.{ℕ, _<_}
-use Rattle.faults.specs.Stations.{members}
+use Rattle.stations.specs.Members.{members}
 use Rattle.faults.specs.Rules.{within}
 use Rattle.faults.specs.Lists.{at}
 use Rattle.faults.proofs.listing.is_nested.Given as given

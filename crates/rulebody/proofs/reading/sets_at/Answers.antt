@@ -6,7 +6,7 @@ use Prim.Native.Nat.{ℕ, _+_, _*_, _<_}
 use lib.ListN.{length}
 use Rattle.std.specs.Of.Vec.{vec-items}
 use Rattle.agreement.proofs.Places.{one-more, at-each}
-use Rattle.faults.specs.declared.stations.StationSet.{StationSet}
+use Rattle.stations.specs.declared.StationSet.{StationSet}
 use Rattle.rulebody.specs.Format.{word, SetsAt}
 use Rattle.rulebody.proofs.reading.sets_at.Needs as need
 

@@ -5,7 +5,7 @@ use native.Mathlib.Omega.{arith}
 use lib.Dec.{ltb}
 use Rattle.agreement.specs.Sets.{Set, outside}
 use Rattle.agreement.proofs.Quorums.{same-below}
-use Rattle.faults.specs.Stations.{members}
+use Rattle.stations.specs.Members.{members}
 use Rattle.faults.proofs.rule.FaultRule.is_quorum.Needs as need
 
 -- the mask has every station of a rule

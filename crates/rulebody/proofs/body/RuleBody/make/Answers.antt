@@ -3,7 +3,7 @@ use mathlib.Core.List.{List}
 use Rattle.std.proofs.shelf.Results.{err-from-errBy}
 use Rattle.std.specs.Of.Vec.{vec-items}
 use Rattle.std.specs.declared.result.Result.the-variants.{Ok, Err}
-use Rattle.faults.specs.declared.stations.StationSet.{StationSet}
+use Rattle.stations.specs.declared.StationSet.{StationSet}
 use Rattle.faults.specs.Made.{ListedMade}
 use Rattle.rulebody.specs.declared.body.RuleBody.{RuleBody}
 use Rattle.rulebody.specs.Making.{BodyMade}

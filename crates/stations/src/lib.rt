@@ -5,7 +5,8 @@ ghost use mathlib.Core.Bool.{Bool, cond};
 ghost use Prim.Native.Nat.{ℕ, _-_, _^_, _<_, min};
 ghost use lib.Dec.{leb, ltb};
 ghost use Rattle.agreement.specs.Sets.{upTo, both, below, outside, without, either, only, inside, every, covers, tally};
-ghost use Rattle.faults.specs.Stations.{members};
+ghost use Rattle.stations.specs.Members.{members};
+use std::fmt;
 
 /// A set of stations with numbers below 16: a number in which station i counts 2^i.
 #[derive(Clone, Copy, PartialEq, Eq, Debug)]
@@ -26,13 +27,6 @@ impl StationSet {
         ensures { λ r. ⌜ r .bits ≡ bits ⌝ }
     {
         StationSet { bits }
-    }
-
-    /// The number of the set.
-    pub fn bits(self) -> u16
-        ensures { λ r. ⌜ r ≡ self .bits ⌝ }
-    {
-        self.bits
     }
 
     /// Whether a station is in the set; none from 16 on is.
@@ -155,5 +149,22 @@ impl StationSet {
         ensures { λ r. ⌜ r ≡ every n (members self) ⌝ }
     {
         n <= 16 && !self.bits & mask(n) == 0
+    }
+}
+
+/// The stations in ascending order, as `{0,3}`.
+pub impl fmt::Display for StationSet as StationSetDisplay {
+    fn fmt<W: fmt::Write>(&self, f: &mut fmt::Formatter<W>) -> fmt::Result {
+        let mut before = "{";
+        for station in 0..16u8 {
+            if self.has(station) {
+                write!(f, "{before}{station}")?;
+                before = ",";
+            }
+        }
+        if self.bits == 0 {
+            write!(f, "{before}")?;
+        }
+        write!(f, "}}")
     }
 }

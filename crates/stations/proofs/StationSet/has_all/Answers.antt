@@ -5,8 +5,8 @@ use Prim.Native.Nat.{ℕ, _-_, _<_}
 use native.Mathlib.Omega.{arith}
 use lib.Dec.{eqb, leb}
 use lib.Bits.{bitAnd}
-use Rattle.faults.proofs.Digits.{all-below, not-all}
-use Rattle.faults.proofs.stations.StationSet.has_all.Needs as need
+use Rattle.stations.proofs.Digits.{all-below, not-all}
+use Rattle.stations.proofs.StationSet.has_all.Needs as need
 
 pub returns-then-n-le16 : need.returns-then-n-le16
 returns-then-n-le16 c =

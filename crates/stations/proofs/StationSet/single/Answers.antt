@@ -4,7 +4,7 @@ use native.Mathlib.Omega.{arith}
 use lib.Pow.{pow-mono}
 use Rattle.agreement.specs.Sets.{holds}
 use Rattle.agreement.proofs.Numbers.{holds-one}
-use Rattle.faults.proofs.stations.StationSet.single.Needs as need
+use Rattle.stations.proofs.StationSet.single.Needs as need
 
 pub returns : need.returns
 returns c =

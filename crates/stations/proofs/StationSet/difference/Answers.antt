@@ -1,7 +1,7 @@
 use borrow.Author.Needs.{needs}
 use Prim.Native.Nat.{_<_}
-use Rattle.faults.proofs.Digits.{minus-at}
-use Rattle.faults.proofs.stations.StationSet.difference.Needs as need
+use Rattle.stations.proofs.Digits.{minus-at}
+use Rattle.stations.proofs.StationSet.difference.Needs as need
 
 pub returns : need.returns
 returns c =

@@ -1,5 +1,5 @@
 use Rattle.agreement.proofs.Numbers.{holds-or}
-use Rattle.faults.proofs.stations.StationSet.union.Needs as need
+use Rattle.stations.proofs.StationSet.union.Needs as need
 
 pub returns : need.returns
 returns c = λ i j. holds-or (c .args .self .bits) (c .args .other .bits) j i

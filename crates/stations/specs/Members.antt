@@ -1,6 +1,6 @@
 -- A set of stations of the program, read as a test on station numbers.
 use Rattle.agreement.specs.Sets.{Set, holds}
-use Rattle.faults.specs.declared.stations.StationSet.{StationSet}
+use Rattle.stations.specs.declared.StationSet.{StationSet}
 
 -- The stations of a set of the program.
 abbrev pub members : StationSet → Set

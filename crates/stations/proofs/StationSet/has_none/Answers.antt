@@ -3,8 +3,8 @@ use mathlib.Core.Path.{ap, _∙_}
 use Prim.Native.Nat.{ℕ, _<_}
 use lib.Dec.{eqb}
 use lib.Bits.{bitAnd}
-use Rattle.faults.proofs.Digits.{none-below}
-use Rattle.faults.proofs.stations.StationSet.has_none.Needs as need
+use Rattle.stations.proofs.Digits.{none-below}
+use Rattle.stations.proofs.StationSet.has_none.Needs as need
 
 pub returns : need.returns
 returns c =

@@ -3,8 +3,8 @@ use mathlib.Core.Path.{ap, _∙_}
 use Prim.Native.Nat.{ℕ, _<_}
 use lib.Bits.{bitAnd}
 use lib.Count.{ones}
-use Rattle.faults.proofs.Digits.{ones-below}
-use Rattle.faults.proofs.stations.StationSet.count.Needs as need
+use Rattle.stations.proofs.Digits.{ones-below}
+use Rattle.stations.proofs.StationSet.count.Needs as need
 
 pub returns : need.returns
 returns c =
