@@ -1,14 +1,16 @@
 -- What the four laws say of quorums and blocking sets.
-use mathlib.Core.Path.{_≡_, refl, sym, _∙_}
+use mathlib.Core.Path.{_≡_, refl}
 use mathlib.Core.Bool.{Bool, true, false, not, _&&_, _||_}
 use mathlib.Core.Logic.{_⊎_, inl, inr}
 use Prim.Native.Nat.{ℕ, _<_}
 use native.Mathlib.Omega.{arith}
-use Rattle.agreement.specs.Sets.{Set, Part, Cover, Some, both, outside, without}
-use Rattle.agreement.specs.Families.{Family, Families, PartsToo, Laws, Blocking, Quorum}
+use lib.Dec.{ltb}
+use borrow.Author.Tests.{lt-ltb}
+use Rattle.agreement.specs.Sets.{Set, Part, Cover, Some, both, below, outside, without}
+use Rattle.agreement.specs.Families.{Families, Laws, Blocking, Quorum}
 use Rattle.agreement.specs.Families.{QuorumsMeet, QuorumBlocks, BlockingReachesOut, QuorumReachesOut}
-use Rattle.agreement.specs.Families.{RestSuffices, OneBlocks, LargerToo, IgnoresFromN}
-use Rattle.agreement.proofs.Tests.{true-or-false, clash, same-truth}
+use Rattle.agreement.specs.Families.{RestSuffices, OneBlocks, LargerToo, PartsIgnore}
+use Rattle.agreement.proofs.Tests.{true-or-false, clash, same-truth, and-both, and-right}
 use Rattle.agreement.proofs.Sets.{find}
 
 -- a set is blocking where its being wide-tolerable is absurd
@@ -80,13 +82,7 @@ larger-too f l X Y p = (
   λ x. blocks f Y (λ y. clash (l .wide-parts X Y p y) x),
 )
 
--- a family that has every part of its sets asks only for the stations below n
-pub same-below : (n : ℕ) (family : Family) → PartsToo n family → (X Y : Set) → ((j : ℕ) → j < n → X j ≡ Y j)
-    → family X ≡ family Y
-same-below n family l X Y e = same-truth (family X) (family Y)
-    (l Y X (λ j h t. e j h ∙ t))
-    (l X Y (λ j h t. sym (e j h) ∙ t))
-
-pub ignores-from-n : IgnoresFromN
-ignores-from-n f l X Y e =
-    (same-below (f .n) (f .wide) (l .wide-parts) X Y e, same-below (f .n) (f .narrow) (l .narrow-parts) X Y e)
+pub parts-ignore : PartsIgnore
+parts-ignore n family parts X = same-truth (family (below n X)) (family X)
+    (parts X (below n X) (λ j h t. and-both (lt-ltb j n h) t))
+    (parts (below n X) X (λ j h t. and-right (ltb j n) (X j) t))

@@ -2,8 +2,8 @@
 use mathlib.Core.Path.{_≡_}
 use mathlib.Core.Bool.{Bool, true, false}
 use mathlib.Core.Logic.{_⊎_}
-use Prim.Native.Nat.{ℕ, _<_}
-use Rattle.agreement.specs.Sets.{Set, Part, Cover, Some, both, outside, without}
+use Prim.Native.Nat.{ℕ}
+use Rattle.agreement.specs.Sets.{Set, Part, Cover, Some, both, below, outside, without}
 
 -- A family of sets of stations is a test on sets.
 abbrev pub Family : Type 0
@@ -18,6 +18,10 @@ pub record Families : Type 0 where
 -- Law 1: every part of a tolerable set is tolerable in the same family; stations from n on do not count.
 abbrev pub PartsToo : ℕ → Family → Type 0
 PartsToo n family = (X Y : Set) → Part n X Y → family Y ≡ true → family X ≡ true
+
+-- Stations from n on are ignored.
+abbrev pub Ignores : ℕ → Family → Type 0
+Ignores n family = (X : Set) → family (below n X) ≡ family X
 
 -- Law 2: a narrow-tolerable set is wide-tolerable.
 abbrev pub NarrowIsWide : Families → Type 0
@@ -86,8 +90,6 @@ LargerToo =
     (f : Families) → Laws f → (X Y : Set) → Part (f .n) X Y
     → (Quorum f X → Quorum f Y) × (Blocking f X → Blocking f Y)
 
--- Two sets with the same stations below n are tolerable alike: stations from n on are ignored.
-abbrev pub IgnoresFromN : Type 0
-IgnoresFromN =
-    (f : Families) → Laws f → (X Y : Set) → ((j : ℕ) → j < f .n → X j ≡ Y j)
-    → (f .wide X ≡ f .wide Y) × (f .narrow X ≡ f .narrow Y)
+-- A family that keeps law 1 ignores the stations from n on.
+abbrev pub PartsIgnore : Type 0
+PartsIgnore = (n : ℕ) (family : Family) → PartsToo n family → Ignores n family

@@ -3,7 +3,7 @@
 //! A function here has no work to do: its contract is a theorem, and the check asks for the proof.
 
 ghost use Rattle.agreement.specs.Families.{QuorumsMeet, QuorumBlocks, BlockingReachesOut, QuorumReachesOut};
-ghost use Rattle.agreement.specs.Families.{RestSuffices, OneBlocks, LargerToo, IgnoresFromN};
+ghost use Rattle.agreement.specs.Families.{RestSuffices, OneBlocks, LargerToo, PartsIgnore};
 ghost use Rattle.agreement.specs.Sets.{NumbersAreSets, SetsAreNumbers};
 
 /// Sets of stations below n and numbers below 2 ^ n are the same thing: station i counts 2 ^ i.
@@ -21,5 +21,5 @@ pub fn laws_give_quorums()
     ensures rest_of_wide_suffices { λ _. ⌜ RestSuffices ⌝ }
     ensures one_of_two_blocks { λ _. ⌜ OneBlocks ⌝ }
     ensures larger_sets_too { λ _. ⌜ LargerToo ⌝ }
-    ensures stations_from_n_ignored { λ _. ⌜ IgnoresFromN ⌝ }
+    ensures stations_from_n_ignored { λ _. ⌜ PartsIgnore ⌝ }
 {}

@@ -41,12 +41,12 @@ Apart n N W =
     (t : ℕ × ℕ × ℕ) → (ltb (t .0) (length N) && (ltb (t .1) (length W) && ltb (t .2) (length W))) ≡ true
     → covered n N W (t .0) (t .1) (t .2) ≡ false
 
--- The first three places, in the order narrow, wide, other wide, whose sets hold every station.
+-- The first three places, in the order narrow, first wide, second wide, whose sets hold every station.
 pub record FirstThree (n : ℕ) (N W : List StationSet) (t : Three) : Type 0 where
   pub narrow-there : t .narrow < length N
-  pub wide-there : t .wide < length W
-  pub other-there : t .other < length W
-  pub hold-all : covered n N W (t .narrow) (t .wide) (t .other) ≡ true
+  pub first-there : t .wide .0 < length W
+  pub second-there : t .wide .1 < length W
+  pub hold-all : covered n N W (t .narrow) (t .wide .0) (t .wide .1) ≡ true
   pub no-narrow-before : (i j k : ℕ) → i < t .narrow → j < length W → k < length W → covered n N W i j k ≡ false
-  pub no-wide-before : (j k : ℕ) → j < t .wide → k < length W → covered n N W (t .narrow) j k ≡ false
-  pub no-other-before : (k : ℕ) → k < t .other → covered n N W (t .narrow) (t .wide) k ≡ false
+  pub no-first-before : (j k : ℕ) → j < t .wide .0 → k < length W → covered n N W (t .narrow) j k ≡ false
+  pub no-second-before : (k : ℕ) → k < t .wide .1 → covered n N W (t .narrow) (t .wide .0) k ≡ false

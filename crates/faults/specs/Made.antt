@@ -26,9 +26,17 @@ ThresholdFault n s a (Some Lists) = ⊥
 ThresholdFault n s a (Some Form) = ⊥
 ThresholdFault n s a (Some Memory) = ⊥
 
+-- Size and lists with which a listed rule is made.
+pub record GoodLists (n : ℕ) (W N : List StationSet) : Type 0 where
+  pub sized : Sized n
+  pub proper-wide : Proper n W
+  pub proper-narrow : Proper n N
+  pub nested : Nested n N W
+  pub apart : Apart n N W
+
 -- The first fault of a listed rule, in the order size, lists, narrow beyond wide, cover.
 abbrev pub ListedFault : ℕ → List StationSet → List StationSet → Option Fault → Type 0
-ListedFault n W N None = Sized n × Proper n W × Proper n N × Nested n N W × Apart n N W
+ListedFault n W N None = GoodLists n W N
 ListedFault n W N (Some Size) = Sized n → ⊥
 ListedFault n W N (Some Lists) = Sized n × (Proper n W → Proper n N → ⊥)
 ListedFault n W N (Some NarrowBeyondWide) = Sized n × Proper n W × Proper n N × (Nested n N W → ⊥)

@@ -5,12 +5,11 @@ ghost use Rattle.faults.specs.Faults.{number};
 ghost use Rattle.faults.specs.declared.fault.Fault.the-variants.{Memory};
 use std::alloc::AllocError;
 
-/// A narrow and two wide sets that together hold every station, each by its place in its list.
+/// A narrow set and two wide ones that together hold every station, each by its place in its list.
 #[derive(Clone, Copy, PartialEq, Eq, Debug)]
 pub struct Three {
     pub narrow: usize,
-    pub wide: usize,
-    pub other: usize,
+    pub wide: (usize, usize),
 }
 
 /// Why a fault rule is refused.

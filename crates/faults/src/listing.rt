@@ -37,14 +37,11 @@ fn first_cover(narrow_sets: &[StationSet], wide_sets: &[StationSet], n: u8) -> O
 {
     'search: {
         for (narrow, x) in narrow_sets.iter().enumerate() {
-            for (wide, y) in wide_sets.iter().enumerate() {
-                for (other, z) in wide_sets.iter().enumerate() {
+            for (first, y) in wide_sets.iter().enumerate() {
+                for (second, z) in wide_sets.iter().enumerate() {
                     if StationSet::cover(*x, *y, *z, n) {
-                        break 'search Some(Three {
-                            narrow,
-                            wide,
-                            other,
-                        });
+                        let wide = (first, second);
+                        break 'search Some(Three { narrow, wide });
                     }
                 }
             }
@@ -89,10 +86,10 @@ fn first_fault(n: u8, wide: &[StationSet], narrow: &[StationSet]) -> Option<Faul
     if !is_nested(narrow, wide, n) {
         return Some(Fault::NarrowBeyondWide);
     }
-    match first_cover(narrow, wide, n) {
-        Some(three) => Some(Fault::CoveredBy(three)),
-        None => None,
+    if let Some(three) = first_cover(narrow, wide, n) {
+        return Some(Fault::CoveredBy(three));
     }
+    None
 }
 
 impl Listed {

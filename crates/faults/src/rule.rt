@@ -4,7 +4,7 @@ ghost use mathlib.Core.Path.{_≡_};
 ghost use mathlib.Core.Bool.{Bool, not};
 ghost use Prim.Native.Nat.{ℕ, _≤_};
 ghost use Rattle.agreement.specs.Sets.{outside};
-ghost use Rattle.agreement.specs.Families.{Families, Laws, PartsToo, NarrowIsWide, EmptyIsNarrow, NoCover};
+ghost use Rattle.agreement.specs.Families.{Families, Laws, PartsToo, Ignores, NarrowIsWide, EmptyIsNarrow, NoCover};
 ghost use Rattle.stations.specs.Members.{members};
 ghost use Rattle.faults.specs.Senses.{family};
 use stations::StationSet;
@@ -29,6 +29,10 @@ pub trait FaultRule {
     law wide_parts: { (f : Self) → PartsToo (families f .n) (families f .wide) };
 
     law narrow_parts: { (f : Self) → PartsToo (families f .n) (families f .narrow) };
+
+    law wide_ignores: { (f : Self) → Ignores (families f .n) (families f .wide) };
+
+    law narrow_ignores: { (f : Self) → Ignores (families f .n) (families f .narrow) };
 
     law narrow_is_wide: { (f : Self) → NarrowIsWide (families f) };
 

@@ -56,7 +56,7 @@ impl StationSet {
 
     /// The stations below n that are not in the set.
     pub fn rest(self, n: u8) -> StationSet
-        ensures { λ r. ⌜ members r ≡ without (upTo (min n 16)) (members self) ⌝ }
+        ensures { λ r. ⌜ members r ≡ below (min n 16) (outside (members self)) ⌝ }
     {
         StationSet::all(n).difference(self)
     }
@@ -126,7 +126,8 @@ impl StationSet {
     }
 
     fn difference(self, other: StationSet) -> StationSet
-        ensures { λ r. ⌜ members r ≡ without (members self) (members other) ⌝ }
+        ensures stations { λ r. ⌜ members r ≡ without (members self) (members other) ⌝ }
+        ensures by_both { λ r. ⌜ members r ≡ both (members self) (outside (members other)) ⌝ }
     {
         StationSet {
             bits: self.bits & !other.bits,

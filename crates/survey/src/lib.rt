@@ -2,7 +2,7 @@
 
 ghost use mathlib.Core.Path.{_≡_};
 ghost use mathlib.Core.Bool.{Bool, true, false};
-ghost use Prim.Native.Nat.{ℕ, _^_, _<_};
+ghost use Prim.Native.Nat.{ℕ, _+_, _^_, _<_};
 ghost use Rattle.std.specs.Of.Vec.{vec-items};
 ghost use Rattle.std.specs.Vec.{made};
 ghost use Rattle.agreement.specs.Sets.{holds, either, only};
@@ -36,6 +36,29 @@ fn is_largest<F: FaultRule>(rule: &F, sense: Sense, x: StationSet) -> bool
     rule.tolerates(sense, x) && !can_grow(rule, sense, x)
 }
 
+// How many sets of the rule's stations there are.
+fn count_sets<F: FaultRule>(rule: &F) -> u16
+    ensures { λ r. ⌜ r ≡ 2 ^ F·FaultRule .families (now (rule .entry)) .n ⌝ }
+{
+    1 << rule.size()
+}
+
+// Puts the set with the number `bits` at the end of those found below it, if it is largest.
+fn gather<F: FaultRule>(
+    rule: &F,
+    sense: Sense,
+    found: &mut Vec<StationSet>,
+    bits: u16,
+) -> Result<(), AllocError>
+    ensures { λ r. ⌜ made r (λ _. Lists bits (λ x. Largest (F·FaultRule .families (now (rule .entry)) .n) (family (F·FaultRule .families (now (rule .entry))) sense) (holds x)) (vec-items (now (found .entry))) → Lists (bits + 1) (λ x. Largest (F·FaultRule .families (now (rule .entry)) .n) (family (F·FaultRule .families (now (rule .entry))) sense) (holds x)) (vec-items (now (found .exit)))) ⌝ }
+{
+    let x = StationSet::from_bits(bits);
+    if is_largest(rule, sense, x) {
+        found.push(x)?;
+    }
+    Ok(())
+}
+
 /// The largest sets that a rule tolerates in one sense: those that no tolerable set properly contains,
 /// each once, in ascending order of their numbers.
 pub fn largest_sets<F: FaultRule>(
@@ -46,11 +69,8 @@ pub fn largest_sets<F: FaultRule>(
     ensures { λ r. ⌜ made r (λ v. Lists (2 ^ F·FaultRule .families (now (rule .entry)) .n) (λ x. Largest (F·FaultRule .families (now (rule .entry)) .n) (family (F·FaultRule .families (now (rule .entry))) sense) (holds x)) (vec-items v)) ⌝ }
 {
     let mut found = Vec::new(heap);
-    for bits in 0..1 << rule.size() {
-        let x = StationSet::from_bits(bits);
-        if is_largest(rule, sense, x) {
-            found.push(x)?;
-        }
+    for bits in 0..count_sets(rule) {
+        gather(rule, sense, &mut found, bits)?;
     }
     Ok(found)
 }

@@ -119,8 +119,8 @@ fn reason(fault: Fault) -> &'static str {
 fn print_three(rt: &LibcRuntime, body: &RuleBody, three: Three) -> io::Result<()> {
     if let RuleBody::Listed { wide, narrow, .. } = body {
         print_at(rt, "narrow", narrow.as_slice(), three.narrow)?;
-        print_at(rt, "wide", wide.as_slice(), three.wide)?;
-        print_at(rt, "wide", wide.as_slice(), three.other)?;
+        print_at(rt, "wide", wide.as_slice(), three.wide.0)?;
+        print_at(rt, "wide", wide.as_slice(), three.wide.1)?;
     }
     Ok(())
 }

@@ -81,20 +81,20 @@ module _ (n : ℕ) (N W : List StationSet) where
   -- the three places are there, their sets hold every station, and none before them do
   abbrev first-three : Three → Bool
   first-three t =
-      (ltb (t .narrow) (length N) && (ltb (t .wide) (length W) && ltb (t .other) (length W)))
-      && (covered n N W (t .narrow) (t .wide) (t .other)
+      (ltb (t .narrow) (length N) && (ltb (t .wide .0) (length W) && ltb (t .wide .1) (length W)))
+      && (covered n N W (t .narrow) (t .wide .0) (t .wide .1)
       && (rows (t .narrow) (length W) (length W)
-      && (columns (t .narrow) (t .wide) (length W) && cells (t .narrow) (t .wide) (t .other))))
+      && (columns (t .narrow) (t .wide .0) (length W) && cells (t .narrow) (t .wide .0) (t .wide .1))))
 
   is-first-three : (t : Three) → first-three t ≡ true → FirstThree n N W t
   is-first-three t e =
       let a = ltb (t .narrow) (length N) in
-      let b = ltb (t .wide) (length W) in
-      let c = ltb (t .other) (length W) in
-      let here = covered n N W (t .narrow) (t .wide) (t .other) in
+      let b = ltb (t .wide .0) (length W) in
+      let c = ltb (t .wide .1) (length W) in
+      let here = covered n N W (t .narrow) (t .wide .0) (t .wide .1) in
       let r = rows (t .narrow) (length W) (length W) in
-      let q = columns (t .narrow) (t .wide) (length W) in
-      let p = cells (t .narrow) (t .wide) (t .other) in
+      let q = columns (t .narrow) (t .wide .0) (length W) in
+      let p = cells (t .narrow) (t .wide .0) (t .wide .1) in
       let there = and-left (a && (b && c)) (here && (r && (q && p))) e in
       let wides = and-right a (b && c) there in
       let found = and-right (a && (b && c)) (here && (r && (q && p))) e in
@@ -102,12 +102,12 @@ module _ (n : ℕ) (N W : List StationSet) where
       let inner = and-right r (q && p) before in
       record {
         narrow-there = ltb-true (t .narrow) (length N) (and-left a (b && c) there);
-        wide-there = ltb-true (t .wide) (length W) (and-left b c wides);
-        other-there = ltb-true (t .other) (length W) (and-right b c wides);
+        first-there = ltb-true (t .wide .0) (length W) (and-left b c wides);
+        second-there = ltb-true (t .wide .1) (length W) (and-right b c wides);
         hold-all = and-left here (r && (q && p)) found;
         no-narrow-before = row-at (t .narrow) (length W) (length W) (and-left r (q && p) before);
-        no-wide-before = column-at (t .narrow) (t .wide) (length W) (and-left q p inner);
-        no-other-before = cell-at (t .narrow) (t .wide) (t .other) (and-right q p inner);
+        no-first-before = column-at (t .narrow) (t .wide .0) (length W) (and-left q p inner);
+        no-second-before = cell-at (t .narrow) (t .wide .0) (t .wide .1) (and-right q p inner);
       }
 
 abbrev lists-good : ℕ → List StationSet → List StationSet → Bool
@@ -168,7 +168,13 @@ comes (threshold n s a) (Some Memory) e = never e
 comes (lists n W N) None e =
     let good = lists-good n (sets W) (sets N) in
     let g = are-good n (sets W) (sets N) (and-left good (apart n (sets N) (sets W)) e) in
-    (g .0, g .1, g .2, g .3, is-apart n (sets N) (sets W) (and-right good (apart n (sets N) (sets W)) e))
+    record {
+      sized = g .0;
+      proper-wide = g .1;
+      proper-narrow = g .2;
+      nested = g .3;
+      apart = is-apart n (sets N) (sets W) (and-right good (apart n (sets N) (sets W)) e);
+    }
 comes (lists n W N) (Some Size) e = never e
 comes (lists n W N) (Some NarrowBeyondWide) e = never e
 comes (lists n W N) (Some Cover) e = never e

@@ -27,7 +27,7 @@ abbrev pub table : List (Case × Option Fault)
 table =
     (threshold 4 1 1, None) ∷ (threshold 3 1 1, Some Cover) ∷ (threshold 7 3 0, None) ∷ (threshold 7 3 1, Some Cover)
     ∷ (threshold 7 1 2, Some NarrowBeyondWide)
-    ∷ (lists 4 (3 ∷ 12 ∷ []) (3 ∷ []), Some (CoveredBy (record { narrow = 0; wide = 0; other = 1 })))
+    ∷ (lists 4 (3 ∷ 12 ∷ []) (3 ∷ []), Some (CoveredBy (record { narrow = 0; wide = (0, 1) })))
     ∷ (lists 5 (3 ∷ 4 ∷ 8 ∷ []) (8 ∷ []), None) ∷ []
 
 -- Every case of a table comes to what stands beside it.

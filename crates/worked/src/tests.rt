@@ -115,8 +115,7 @@ fn the_first_three_are_named(rt: LibcRuntime) -> Result<(), Fail> {
             Fault::CoveredBy(
                 Three {
                     narrow: 0,
-                    wide: 0,
-                    other: 3,
+                    wide: (0, 3),
                 },
             ),
         ) => Ok(()),

@@ -1,5 +1,5 @@
 use Rattle.agreement.proofs.Quorums.{quorums-meet, quorum-blocks, blocking-reaches-out, quorum-reaches-out}
-use Rattle.agreement.proofs.Quorums.{rest-suffices, one-blocks, larger-too, ignores-from-n}
+use Rattle.agreement.proofs.Quorums.{rest-suffices, one-blocks, larger-too, parts-ignore}
 use Rattle.agreement.proofs.laws_give_quorums.Needs as need
 
 pub returns : need.returns
@@ -11,5 +11,5 @@ returns c = record {
   rest-of-wide-suffices = rest-suffices;
   one-of-two-blocks = one-blocks;
   larger-sets-too = larger-too;
-  stations-from-n-ignored = ignores-from-n;
+  stations-from-n-ignored = parts-ignore;
 }

@@ -7,4 +7,7 @@ pub returns : need.returns
 returns c =
     let p : c .args .self .bits < 65536 = search needs in
     let q : c .args .other .bits < 65536 = search needs in
-    λ i j. minus-at (c .args .self .bits) (c .args .other .bits) j p q i
+    record {
+      stations = λ i j. minus-at (c .args .self .bits) (c .args .other .bits) j p q i;
+      by-both = λ i j. minus-at (c .args .self .bits) (c .args .other .bits) j p q i;
+    }

@@ -1,7 +1,6 @@
-use native.Mathlib.Omega.{arith}
-use Prim.Native.Nat.{_≤_}
 use Rattle.std.specs.Of.Vec.{vec-items}
 use Rattle.agreement.specs.Families.{Laws}
+use Rattle.agreement.proofs.Quorums.{parts-ignore}
 use Rattle.faults.proofs.Laws.{threshold-laws, listed-laws}
 use Rattle.rulebody.specs.declared.rule.Rule.{Rule}
 use Rattle.rulebody.specs.declared.rule.Rule.the-variants.{Threshold, Listed}
@@ -34,3 +33,9 @@ empty-is-narrow-law r = laws r .empty-is-narrow
 
 pub no-cover-law : need.no-cover-law
 no-cover-law r = laws r .no-cover
+
+pub wide-ignores-law : need.wide-ignores-law
+wide-ignores-law r = parts-ignore (meant r .n) (meant r .wide) (laws r .wide-parts)
+
+pub narrow-ignores-law : need.narrow-ignores-law
+narrow-ignores-law r = parts-ignore (meant r .n) (meant r .narrow) (laws r .narrow-parts)
