@@ -5,7 +5,9 @@ use mathlib.Core.List.{List}
 use Prim.Native.Nat.{ℕ, _^_, _<_, _≤_}
 use lib.Dec.{ltb}
 use lib.ListN.{length, getD}
-use Rattle.agreement.specs.Sets.{covers}
+use Rattle.std.specs.declared.option.Option.{Option}
+use Rattle.std.specs.declared.option.Option.the-variants.{Some, None}
+use Rattle.agreement.specs.Sets.{Set, inside, covers}
 use Rattle.stations.specs.declared.StationSet.{StationSet}
 use Rattle.faults.specs.declared.fault.Three.{Three}
 use Rattle.stations.specs.Members.{members}
@@ -50,3 +52,13 @@ pub record FirstThree (n : ℕ) (N W : List StationSet) (t : Three) : Type 0 whe
   pub no-narrow-before : (i j k : ℕ) → i < t .narrow → j < length W → k < length W → covered n N W i j k ≡ false
   pub no-first-before : (j k : ℕ) → j < t .wide .0 → k < length W → covered n N W (t .narrow) j k ≡ false
   pub no-second-before : (k : ℕ) → k < t .wide .1 → covered n N W (t .narrow) (t .wide .0) k ≡ false
+
+-- A place whose set is around X, or none where there is no such set.
+abbrev pub Around : ℕ → Set → List StationSet → Option ℕ → Type 0
+Around n X L None = (k : ℕ) → k < length L → inside n X (members (at L k)) ≡ false
+Around n X L (Some i) = (i < length L) × (inside n X (members (at L i)) ≡ true)
+
+-- The first three places whose sets hold every station, or none where no three do.
+abbrev pub CoverFound : ℕ → List StationSet → List StationSet → Option Three → Type 0
+CoverFound n N W None = Apart n N W
+CoverFound n N W (Some t) = FirstThree n N W t

@@ -3,8 +3,6 @@
 pub mod both;
 pub mod fault;
 pub mod listed;
-pub mod listing;
-pub mod making;
 pub mod rule;
 
 pub use stations::StationSet;

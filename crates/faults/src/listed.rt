@@ -4,21 +4,21 @@ ghost use mathlib.Core.Path.{_≡_};
 ghost use mathlib.Core.Bool.{Bool, true, false};
 ghost use Prim.Native.Nat.{ℕ, _<_, _≤_};
 ghost use lib.ListN.{length};
-ghost use Rattle.std.specs.Options.{Cases as BySome};
 ghost use Rattle.std.specs.Of.Vec.{vec-items};
-ghost use Rattle.agreement.specs.Sets.{inside};
 ghost use Rattle.stations.specs.Members.{members};
 ghost use Rattle.faults.specs.Rules.{listed, within};
-ghost use Rattle.faults.specs.Lists.{at, Nested, Apart};
+ghost use Rattle.faults.specs.Lists.{Nested, Apart, Around};
 use crate::rule::FaultRule;
 use stations::StationSet;
+
+mod making;
 
 /// Guests are tolerable where they lie inside a listed set.
 #[derive(Drop)]
 pub struct Listed {
-    pub(crate) n: u8,
-    pub(crate) wide: Vec<StationSet>,
-    pub(crate) narrow: Vec<StationSet>,
+    n: u8,
+    wide: Vec<StationSet>,
+    narrow: Vec<StationSet>,
     ghost low: { 1 ≤ n },
     ghost high: { n ≤ 10 },
     ghost some: { 0 < length (vec-items narrow) },
@@ -28,7 +28,7 @@ pub struct Listed {
 
 // The place of the first listed set in which x lies.
 fn first_around(x: StationSet, list: &[StationSet], n: u8) -> Option<usize>
-    ensures { λ r. ⌜ BySome r ((k : ℕ) → k < length (now (list .entry)) → inside n (members x) (members (at (now (list .entry)) k)) ≡ false) (λ i. (i < length (now (list .entry))) × (inside n (members x) (members (at (now (list .entry)) i)) ≡ true)) ⌝ }
+    ensures { λ r. ⌜ Around n (members x) (now (list .entry)) r ⌝ }
 {
     for (i, set) in list.iter().enumerate() {
         if x.is_inside(*set, n) {
@@ -39,7 +39,7 @@ fn first_around(x: StationSet, list: &[StationSet], n: u8) -> Option<usize>
 }
 
 // Whether x lies inside a listed set.
-pub(crate) fn lies_within(x: StationSet, list: &[StationSet], n: u8) -> bool
+fn lies_within(x: StationSet, list: &[StationSet], n: u8) -> bool
     ensures { λ r. ⌜ r ≡ within n (now (list .entry)) (members x) ⌝ }
 {
     first_around(x, list, n).is_some()

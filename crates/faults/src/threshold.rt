@@ -7,12 +7,14 @@ ghost use Rattle.faults.specs.Rules.{threshold};
 use crate::rule::FaultRule;
 use stations::StationSet;
 
+mod making;
+
 /// Any s stations may be guests in the wide sense, and any a in the narrow one.
 #[derive(Clone, Copy)]
 pub struct Threshold {
-    pub(crate) n: u8,
-    pub(crate) s: u8,
-    pub(crate) a: u8,
+    n: u8,
+    s: u8,
+    a: u8,
     ghost low: { 1 ≤ n },
     ghost high: { n ≤ 10 },
     ghost nested: { a ≤ s },

@@ -2,13 +2,12 @@
 
 ghost use mathlib.Core.Path.{_≡_};
 ghost use mathlib.Core.Bool.{Bool, true, false};
-ghost use Prim.Native.Nat.{ℕ, _+_, _^_, _<_};
+ghost use Prim.Native.Nat.{ℕ, _^_};
 ghost use Rattle.std.specs.Of.Vec.{vec-items};
 ghost use Rattle.std.specs.Vec.{made};
-ghost use Rattle.agreement.specs.Sets.{holds, either, only};
 ghost use Rattle.stations.specs.Members.{members};
 ghost use Rattle.faults.specs.Senses.{family};
-ghost use Rattle.survey.specs.Largest.{Largest, Maximal, Lists};
+ghost use Rattle.survey.specs.Largest.{CanGrow, CannotGrow, Maximal, Gathered, AllLargest};
 use faults::rule::FaultRule;
 use faults::rule::Sense;
 use stations::StationSet;
@@ -17,8 +16,8 @@ use std::alloc::Global;
 
 // Whether some set with one station more is tolerable too.
 fn can_grow<F: FaultRule>(rule: &F, sense: Sense, x: StationSet) -> bool
-    ensures yes { λ r. ⌜ (r ≡ true → (i : ℕ) × (i < F·FaultRule .families (now (rule .entry)) .n) × (members x i ≡ false) × (family (F·FaultRule .families (now (rule .entry))) sense (either (members x) (only i)) ≡ true)) ⌝ }
-    ensures none { λ r. ⌜ (r ≡ false → (i : ℕ) → i < F·FaultRule .families (now (rule .entry)) .n → members x i ≡ false → family (F·FaultRule .families (now (rule .entry))) sense (either (members x) (only i)) ≡ false) ⌝ }
+    ensures yes { λ r. ⌜ (r ≡ true → CanGrow (F·FaultRule .families (now (rule .entry)) .n) (family (F·FaultRule .families (now (rule .entry))) sense) (members x)) ⌝ }
+    ensures none { λ r. ⌜ (r ≡ false → CannotGrow (F·FaultRule .families (now (rule .entry)) .n) (family (F·FaultRule .families (now (rule .entry))) sense) (members x)) ⌝ }
 {
     for station in 0..rule.size() {
         if !x.has(station) && rule.tolerates(sense, x.with(station)) {
@@ -43,14 +42,14 @@ fn count_sets<F: FaultRule>(rule: &F) -> u16
     1 << rule.size()
 }
 
-// Puts the set with the number `bits` at the end of those found below it, if it is largest.
+// Puts the set with the number `bits` at the end of the largest ones below it, if it is one.
 fn gather<F: FaultRule>(
     rule: &F,
     sense: Sense,
     found: &mut Vec<StationSet>,
     bits: u16,
 ) -> Result<(), AllocError>
-    ensures { λ r. ⌜ made r (λ _. Lists bits (λ x. Largest (F·FaultRule .families (now (rule .entry)) .n) (family (F·FaultRule .families (now (rule .entry))) sense) (holds x)) (vec-items (now (found .entry))) → Lists (bits + 1) (λ x. Largest (F·FaultRule .families (now (rule .entry)) .n) (family (F·FaultRule .families (now (rule .entry))) sense) (holds x)) (vec-items (now (found .exit)))) ⌝ }
+    ensures { λ r. ⌜ made r (λ _. Gathered bits (F·FaultRule .families (now (rule .entry))) sense (vec-items (now (found .entry))) (vec-items (now (found .exit)))) ⌝ }
 {
     let x = StationSet::from_bits(bits);
     if is_largest(rule, sense, x) {
@@ -66,7 +65,7 @@ pub fn largest_sets<F: FaultRule>(
     rule: &F,
     sense: Sense,
 ) -> Result<Vec<StationSet>, AllocError>
-    ensures { λ r. ⌜ made r (λ v. Lists (2 ^ F·FaultRule .families (now (rule .entry)) .n) (λ x. Largest (F·FaultRule .families (now (rule .entry)) .n) (family (F·FaultRule .families (now (rule .entry))) sense) (holds x)) (vec-items v)) ⌝ }
+    ensures { λ r. ⌜ made r (λ v. AllLargest (F·FaultRule .families (now (rule .entry))) sense (vec-items v)) ⌝ }
 {
     let mut found = Vec::new(heap);
     for bits in 0..count_sets(rule) {

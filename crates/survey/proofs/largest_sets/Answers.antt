@@ -2,14 +2,11 @@ use borrow.Author.Needs.{needs}
 use mathlib.Core.Path.{_≡_, subst}
 use Prim.Native.Nat.{ℕ, _^_}
 use Rattle.std.specs.Of.Vec.{vec-items}
-use Rattle.agreement.specs.Sets.{holds}
-use Rattle.faults.specs.Senses.{family}
-use Rattle.survey.specs.Largest.{Largest, Lists}
+use Rattle.survey.specs.Largest.{LargestBelow}
 use Rattle.survey.proofs.largest_sets.Needs as need
 
 pub returns : need.returns
 returns g c =
     let f = g .F·FaultRule .families (c .args .rule .now) in
     let end : c .loop-bits .bits ≡ 2 ^ f .n = search needs in
-    subst (λ (k : ℕ). Lists k (λ x. Largest (f .n) (family f (c .args .sense)) (holds x)) (vec-items (c .loop-bits .found))) end
-    (c .loop-bits .inv)
+    subst (λ (k : ℕ). LargestBelow k f (c .args .sense) (vec-items (c .loop-bits .found))) end (c .loop-bits .inv)

@@ -5,7 +5,7 @@ use Prim.Native.Nat.{ℕ, _<_}
 use lib.ListN.{length}
 use borrow.Author.Count.{below-more}
 use Rattle.faults.specs.Lists.{covered}
-use Rattle.faults.proofs.listing.first_cover.Needs as need
+use Rattle.faults.proofs.listed.making.first_cover.Needs as need
 
 pub loop-first-again : need.loop-first-again
 loop-first-again c = λ y z hy hz.

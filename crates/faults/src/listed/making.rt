@@ -2,13 +2,8 @@
 
 ghost use mathlib.Core.Path.{_≡_};
 ghost use mathlib.Core.Bool.{Bool, true, false};
-ghost use Prim.Native.Nat.{ℕ, _^_, _<_, _≤_};
-ghost use lib.ListN.{length};
-ghost use Rattle.std.specs.Of.Vec.{vec-items};
-ghost use Rattle.std.specs.Options.{Cases as BySome};
-ghost use Rattle.stations.specs.Members.{members};
-ghost use Rattle.faults.specs.Rules.{within};
-ghost use Rattle.faults.specs.Lists.{at, AllBelow, Proper, Nested, Apart, FirstThree};
+ghost use Prim.Native.Nat.{_≤_};
+ghost use Rattle.faults.specs.Lists.{AllBelow, Proper, Nested, CoverFound};
 ghost use Rattle.faults.specs.Made.{ListedFault, ListedMade};
 use crate::fault::Fault;
 use crate::fault::FaultFromAllocError;
@@ -33,7 +28,7 @@ fn is_nested(list: &[StationSet], hosts: &[StationSet], n: u8) -> bool
 
 // The first narrow and two wide sets, by place, that together hold every station.
 fn first_cover(narrow_sets: &[StationSet], wide_sets: &[StationSet], n: u8) -> Option<Three>
-    ensures { λ r. ⌜ BySome r (Apart n (now («narrow_sets» .entry)) (now («wide_sets» .entry))) (λ t. FirstThree n (now («narrow_sets» .entry)) (now («wide_sets» .entry)) t) ⌝ }
+    ensures { λ r. ⌜ CoverFound n (now («narrow_sets» .entry)) (now («wide_sets» .entry)) r ⌝ }
 {
     'search: {
         for (narrow, x) in narrow_sets.iter().enumerate() {

@@ -1,5 +1,5 @@
 use borrow.Author.Needs.{needs}
-use Rattle.faults.proofs.listing.first_fault.Needs as need
+use Rattle.faults.proofs.listed.making.first_fault.Needs as need
 
 pub returns : need.returns
 returns c = record {

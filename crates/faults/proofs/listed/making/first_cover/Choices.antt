@@ -3,7 +3,7 @@ use mathlib.Core.Bool.{false}
 use Prim.Native.Nat.{ℕ, _<_}
 use lib.ListN.{length}
 use Rattle.faults.specs.Lists.{covered}
-use Rattle.faults.proofs.listing.first_cover.Given as given
+use Rattle.faults.proofs.listed.making.first_cover.Given as given
 
 abbrev pub Inv-loop-narrow : given.InvT-loop-narrow
 Inv-loop-narrow l =
