@@ -1,7 +1,6 @@
 -- Numbers as sets of stations: what the operations of the machine do to each station.
 use mathlib.Core.Path.{_≡_, refl, sym, ap, _∙_}
 use mathlib.Core.Bool.{Bool, true, false, not, cond, _&&_, _||_}
-use mathlib.Core.Logic.{_⊎_, inl, inr}
 use Prim.Native.Nat.{ℕ, zero, suc, _+_, _-_, _*_, _/_, _%_, _^_, _<_, _≤_, min, max}
 use native.Mathlib.Omega.{arith}
 use native.Mathlib.Numerals.{one-add}
@@ -11,7 +10,6 @@ use lib.Bits.{bitAnd, bitOr, and-step, or-step}
 use lib.Count.{ones, onesIn, ones-cat}
 use lib.Pow.{mod-pow-add, shr-shr, pow-pos}
 use Rattle.agreement.specs.Sets.{Set, holds, number, tally, below, NumbersAreSets, SetsAreNumbers}
-use Rattle.agreement.proofs.Tests.{true-or-false, clash}
 
 -- station j is in x where x, shifted down by j, is odd
 pub shifted : (x j : ℕ) → holds x j ≡ eqb (x / 2 ^ j % 2) 1

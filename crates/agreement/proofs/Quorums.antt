@@ -1,13 +1,13 @@
 -- What the four laws say of quorums and blocking sets.
 use mathlib.Core.Path.{_≡_, refl}
 use mathlib.Core.Bool.{Bool, true, false, not, _&&_, _||_}
-use mathlib.Core.Logic.{_⊎_, inl, inr}
+use mathlib.Core.Logic.{inl, inr}
 use Prim.Native.Nat.{ℕ, _<_}
 use native.Mathlib.Omega.{arith}
 use lib.Dec.{ltb}
 use borrow.Author.Tests.{lt-ltb}
-use Rattle.agreement.specs.Sets.{Set, Part, Cover, Some, both, below, outside, without}
-use Rattle.agreement.specs.Families.{Families, Laws, Blocking, Quorum}
+use Rattle.agreement.specs.Sets.{Set, Some, both, below, outside, without}
+use Rattle.agreement.specs.Families.{Families, Blocking}
 use Rattle.agreement.specs.Families.{QuorumsMeet, QuorumBlocks, BlockingReachesOut, QuorumReachesOut}
 use Rattle.agreement.specs.Families.{RestSuffices, OneBlocks, LargerToo, PartsIgnore}
 use Rattle.agreement.proofs.Tests.{true-or-false, clash, same-truth, and-both, and-right}

@@ -1,13 +1,13 @@
 -- Tests over all stations below n.
 use mathlib.Core.Path.{_≡_, refl, sym, ap, subst}
-use mathlib.Core.Bool.{Bool, true, false, not, cond, _&&_, _||_}
+use mathlib.Core.Bool.{Bool, true, false, cond, _||_}
 use mathlib.Core.Logic.{_⊎_, inl, inr}
 use Prim.Native.Nat.{ℕ, zero, suc, _+_, _<_, _≤_}
 use native.Mathlib.Omega.{arith}
 use lib.Dec.{eqb}
 use borrow.Author.Tests.{eqb-true, eqb-false}
 use Rattle.agreement.specs.Sets.{Set, every, tally, outside, without, inside, Part, Cover, Some}
-use Rattle.agreement.proofs.Tests.{true-or-false, clash, and-left, and-right, and-both, implied, implies}
+use Rattle.agreement.proofs.Tests.{true-or-false, and-left, and-right, and-both, implied, implies}
 
 -- at the last station, or at one below it
 pub last-or : (P : ℕ → Type 0) (n j : ℕ) → j < suc n → (j < n → P j) → P n → P j

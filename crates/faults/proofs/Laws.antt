@@ -1,13 +1,13 @@
 -- Threshold and listed families keep the four laws.
-use mathlib.Core.Path.{_≡_, refl}
-use mathlib.Core.Bool.{Bool, true, false}
+use mathlib.Core.Path.{refl}
+use mathlib.Core.Bool.{false}
 use mathlib.Core.List.{List}
 use Prim.Native.Nat.{ℕ, _+_, _*_, _<_, _≤_}
 use native.Mathlib.Omega.{arith}
-use lib.Dec.{ltb, leb}
+use lib.Dec.{leb}
 use lib.ListN.{length}
 use borrow.Author.Tests.{leb-true, le-leb, lt-ltb}
-use Rattle.agreement.specs.Sets.{Set, tally}
+use Rattle.agreement.specs.Sets.{tally}
 use Rattle.agreement.specs.Families.{PartsToo, Laws}
 use Rattle.agreement.proofs.Tests.{clash, and-both}
 use Rattle.agreement.proofs.Sets.{tally-part, tally-cover, tally-empty, inside-part, part-inside}

@@ -1,9 +1,9 @@
 -- What the fault rules tolerate.
-use mathlib.Core.Bool.{Bool, true, false, _&&_, _||_}
+use mathlib.Core.Bool.{false, _&&_, _||_}
 use mathlib.Core.List.{List, [], _∷_}
 use Prim.Native.Nat.{ℕ}
 use lib.Dec.{leb}
-use Rattle.agreement.specs.Sets.{Set, tally, below, inside}
+use Rattle.agreement.specs.Sets.{tally, below, inside}
 use Rattle.agreement.specs.Families.{Family, Families}
 use Rattle.stations.specs.declared.StationSet.{StationSet}
 use Rattle.stations.specs.Members.{members}

@@ -1,8 +1,5 @@
 //! Two fault rules in one.
 
-ghost use mathlib.Core.Path.{_≡_};
-ghost use mathlib.Core.Bool.{Bool};
-ghost use Prim.Native.Nat.{ℕ};
 ghost use Rattle.faults.specs.Rules.{both-of};
 use crate::rule::FaultRule;
 use stations::StationSet;

@@ -1,8 +1,8 @@
 //! What every fault rule is asked, and promises.
 
 ghost use mathlib.Core.Path.{_≡_};
-ghost use mathlib.Core.Bool.{Bool, not};
-ghost use Prim.Native.Nat.{ℕ, _≤_};
+ghost use mathlib.Core.Bool.{not};
+ghost use Prim.Native.Nat.{_≤_};
 ghost use Rattle.agreement.specs.Sets.{outside};
 ghost use Rattle.agreement.specs.Families.{Families, Laws, PartsToo, Ignores, NarrowIsWide, EmptyIsNarrow, NoCover};
 ghost use Rattle.stations.specs.Members.{members};

@@ -1,8 +1,6 @@
 //! Fault rules by counting.
 
-ghost use mathlib.Core.Path.{_≡_};
-ghost use mathlib.Core.Bool.{Bool};
-ghost use Prim.Native.Nat.{ℕ, _+_, _*_, _<_, _≤_};
+ghost use Prim.Native.Nat.{_+_, _*_, _<_, _≤_};
 ghost use Rattle.faults.specs.Rules.{threshold};
 use crate::rule::FaultRule;
 use stations::StationSet;

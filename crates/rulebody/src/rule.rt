@@ -1,8 +1,5 @@
 //! A rule of either kind.
 
-ghost use mathlib.Core.Path.{_≡_};
-ghost use mathlib.Core.Bool.{Bool};
-ghost use Prim.Native.Nat.{ℕ};
 ghost use Rattle.rulebody.specs.Kinds.{meant};
 use faults::listed::Listed;
 use faults::listed::ListedRule;

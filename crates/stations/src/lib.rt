@@ -1,8 +1,8 @@
 //! Sets of stations.
 
 ghost use mathlib.Core.Path.{_≡_};
-ghost use mathlib.Core.Bool.{Bool, cond};
-ghost use Prim.Native.Nat.{ℕ, _-_, _^_, _<_, min};
+ghost use mathlib.Core.Bool.{cond};
+ghost use Prim.Native.Nat.{_-_, _^_, _<_, min};
 ghost use lib.Dec.{leb, ltb};
 ghost use Rattle.agreement.specs.Sets.{upTo, both, below, outside, without, either, only, inside, every, covers, tally};
 ghost use Rattle.stations.specs.Members.{members};

@@ -2,13 +2,15 @@
 use mathlib.Core.Path.{_≡_, refl, sym, subst}
 use mathlib.Core.Bool.{Bool, true, false, _||_}
 use mathlib.Core.Logic.{inl, inr}
-use Prim.Native.Nat.{ℕ, _<_}
+use Prim.Native.Nat.{ℕ}
 use native.Mathlib.Omega.{arith}
 use lib.Dec.{eqb}
 use borrow.Author.Tests.{eqb-true, eq-eqb}
 use Rattle.agreement.specs.Sets.{Set, Part, either, only}
-use Rattle.agreement.specs.Families.{Family, PartsToo}
+use Rattle.agreement.specs.Families.{Families, PartsToo}
 use Rattle.agreement.proofs.Tests.{true-or-false, clash}
+use Rattle.faults.specs.declared.rule.Sense.{Sense}
+use Rattle.faults.specs.Senses.{family}
 use Rattle.survey.specs.Largest.{Largest, Maximal}
 
 -- X with a station of Y lies inside Y where X does
@@ -21,19 +23,19 @@ grown n X Y i p y j h e = elim (true-or-false (X j)) [
     right : (a b : Bool) → a ≡ false → (a || b) ≡ true → b ≡ true
     right a b p q = grind arith
 
-pub maximal-largest : (n : ℕ) (family : Family) → PartsToo n family → (X : Set) → Maximal n family X → Largest n family X
-maximal-largest n family parts X m = (
+pub maximal-largest : (f : Families) (s : Sense) → PartsToo (f .n) (family f s) → (X : Set) → Maximal f s X → Largest f s X
+maximal-largest f s parts X m = (
   m .0,
   λ Y y p j h e. elim (true-or-false (X j)) [
     | inl t ↦ t
-    | inr t ↦ absurd (clash (parts (either X (only j)) Y (grown n X Y j p e) y) (m .1 j h t))
+    | inr t ↦ absurd (clash (parts (either X (only j)) Y (grown (f .n) X Y j p e) y) (m .1 j h t))
   ],
 )
 
-pub largest-maximal : (n : ℕ) (family : Family) (X : Set) → Largest n family X → Maximal n family X
-largest-maximal n family X l = (
+pub largest-maximal : (f : Families) (s : Sense) (X : Set) → Largest f s X → Maximal f s X
+largest-maximal f s X l = (
   l .0,
-  λ i h e. elim (true-or-false (family (either X (only i)))) [
+  λ i h e. elim (true-or-false (family f s (either X (only i)))) [
     | inr t ↦ t
     | inl t ↦ absurd (clash (l .1 (either X (only i)) t (λ j k. or-left (X j) (eqb j i)) i h (or-right (X i) (eqb i i) (eq-eqb i i refl))) e)
   ],

@@ -1,9 +1,8 @@
 -- A list of sets in ascending order, one number after another.
-use mathlib.Core.Path.{_≡_, refl, sym, ap, subst, _∙_}
-use mathlib.Core.Bool.{Bool, true, false}
+use mathlib.Core.Path.{_≡_, sym, ap, subst, _∙_}
 use mathlib.Core.List.{List, [], _∷_, _++_}
 use mathlib.Core.Logic.{inl, inr}
-use Prim.Native.Nat.{ℕ, suc, _+_, _<_, _≤_}
+use Prim.Native.Nat.{ℕ, _+_, _<_}
 use native.Mathlib.Omega.{arith}
 use lib.Dec.{eqb}
 use lib.ListN.{length}
@@ -13,14 +12,6 @@ use Rattle.agreement.proofs.Places.{one-more, at-old, at-new, at-each}
 use Rattle.stations.specs.declared.StationSet.{StationSet}
 use Rattle.faults.specs.Lists.{at}
 use Rattle.survey.specs.Largest.{Lists}
-
-pub lists-none : (P : ℕ → Type 0) → Lists 0 P []
-lists-none P = record {
-  under = λ i h. absurd (omega arith);
-  keep = λ i h. absurd (omega arith);
-  ascend = λ i j h k. absurd (omega arith);
-  all = λ x h. absurd (omega arith);
-}
 
 -- a number that does not keep P is passed over
 pub lists-skip : (k : ℕ) (P : ℕ → Type 0) (L : List StationSet) → Lists k P L → (P k → ⊥) → Lists (k + 1) P L
@@ -65,12 +56,3 @@ lists-push k P L x l e p = record {
     each : (Q : ℕ → StationSet → Type 0) → ((i : ℕ) → i < length L → Q i (at L i)) → Q (length L) x
         → (i : ℕ) → i < length (L ++ x ∷ []) → Q i (at (L ++ x ∷ []) i)
     each = at-each (record { bits = 0 }) L x
-
-pub lists-same : (k : ℕ) (P Q : ℕ → Type 0) (L : List StationSet) → ((x : ℕ) → P x → Q x) → ((x : ℕ) → Q x → P x)
-    → Lists k P L → Lists k Q L
-lists-same k P Q L f g l = record {
-  under = l .under;
-  keep = λ i h. f (at L i .bits) (l .keep i h);
-  ascend = l .ascend;
-  all = λ x h q. l .all x h (g x q);
-}

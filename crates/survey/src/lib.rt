@@ -1,12 +1,11 @@
 //! Up to which guests a fault rule tolerates.
 
 ghost use mathlib.Core.Path.{_≡_};
-ghost use mathlib.Core.Bool.{Bool, true, false};
-ghost use Prim.Native.Nat.{ℕ, _^_};
+ghost use mathlib.Core.Bool.{true, false};
+ghost use Prim.Native.Nat.{_^_};
 ghost use Rattle.std.specs.Of.Vec.{vec-items};
 ghost use Rattle.std.specs.Vec.{made};
 ghost use Rattle.stations.specs.Members.{members};
-ghost use Rattle.faults.specs.Senses.{family};
 ghost use Rattle.survey.specs.Largest.{CanGrow, CannotGrow, Maximal, Gathered, AllLargest};
 use faults::rule::FaultRule;
 use faults::rule::Sense;
@@ -16,8 +15,8 @@ use std::alloc::Global;
 
 // Whether some set with one station more is tolerable too.
 fn can_grow<F: FaultRule>(rule: &F, sense: Sense, x: StationSet) -> bool
-    ensures yes { λ r. ⌜ (r ≡ true → CanGrow (F·FaultRule .families (now (rule .entry)) .n) (family (F·FaultRule .families (now (rule .entry))) sense) (members x)) ⌝ }
-    ensures none { λ r. ⌜ (r ≡ false → CannotGrow (F·FaultRule .families (now (rule .entry)) .n) (family (F·FaultRule .families (now (rule .entry))) sense) (members x)) ⌝ }
+    ensures yes { λ r. ⌜ (r ≡ true → CanGrow (F·FaultRule .families (now (rule .entry))) sense (members x)) ⌝ }
+    ensures none { λ r. ⌜ (r ≡ false → CannotGrow (F·FaultRule .families (now (rule .entry))) sense (members x)) ⌝ }
 {
     for station in 0..rule.size() {
         if !x.has(station) && rule.tolerates(sense, x.with(station)) {
@@ -29,8 +28,8 @@ fn can_grow<F: FaultRule>(rule: &F, sense: Sense, x: StationSet) -> bool
 
 // Whether x is tolerable, and no tolerable set properly contains it.
 fn is_largest<F: FaultRule>(rule: &F, sense: Sense, x: StationSet) -> bool
-    ensures yes { λ r. ⌜ (r ≡ true → Maximal (F·FaultRule .families (now (rule .entry)) .n) (family (F·FaultRule .families (now (rule .entry))) sense) (members x)) ⌝ }
-    ensures none { λ r. ⌜ (r ≡ false → Maximal (F·FaultRule .families (now (rule .entry)) .n) (family (F·FaultRule .families (now (rule .entry))) sense) (members x) → ⊥) ⌝ }
+    ensures yes { λ r. ⌜ (r ≡ true → Maximal (F·FaultRule .families (now (rule .entry))) sense (members x)) ⌝ }
+    ensures none { λ r. ⌜ (r ≡ false → Maximal (F·FaultRule .families (now (rule .entry))) sense (members x) → ⊥) ⌝ }
 {
     rule.tolerates(sense, x) && !can_grow(rule, sense, x)
 }
@@ -49,7 +48,7 @@ fn gather<F: FaultRule>(
     found: &mut Vec<StationSet>,
     bits: u16,
 ) -> Result<(), AllocError>
-    ensures { λ r. ⌜ made r (λ _. Gathered bits (F·FaultRule .families (now (rule .entry))) sense (vec-items (now (found .entry))) (vec-items (now (found .exit)))) ⌝ }
+    ensures { λ r. ⌜ made r (λ _. Gathered bits (F·FaultRule .families (now (rule .entry))) sense (now (found .entry)) (now (found .exit))) ⌝ }
 {
     let x = StationSet::from_bits(bits);
     if is_largest(rule, sense, x) {

@@ -1,7 +1,7 @@
 //! Making a listed rule.
 
 ghost use mathlib.Core.Path.{_≡_};
-ghost use mathlib.Core.Bool.{Bool, true, false};
+ghost use mathlib.Core.Bool.{true, false};
 ghost use Prim.Native.Nat.{_≤_};
 ghost use Rattle.faults.specs.Lists.{AllBelow, Proper, Nested, CoverFound};
 ghost use Rattle.faults.specs.Made.{ListedFault, ListedMade};

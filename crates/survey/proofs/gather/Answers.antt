@@ -9,7 +9,7 @@ use Rattle.stations.specs.declared.StationSet.{StationSet}
 use Rattle.faults.specs.declared.rule.Sense.{Sense}
 use Rattle.faults.specs.declared.rule.Sense.the-variants.{Wide, Narrow}
 use Rattle.faults.specs.Senses.{family}
-use Rattle.survey.specs.Largest.{Largest, Maximal, Lists}
+use Rattle.survey.specs.Largest.{Largest, Lists}
 use Rattle.survey.proofs.Growing.{maximal-largest, largest-maximal}
 use Rattle.survey.proofs.Listing.{lists-skip, lists-push}
 use Rattle.survey.proofs.gather.Needs as need
@@ -23,13 +23,13 @@ pub returns-in-Continue-push : need.returns-in-Continue-push
 returns-in-Continue-push g c = λ l.
     let rule = c .args .rule .now in
     let f = g .F·FaultRule .families rule in
-    let F = family f (c .args .sense) in
-    let P : ℕ → Type 0 = λ x. Largest (f .n) F (holds x) in
+    let s = c .args .sense in
+    let P : ℕ → Type 0 = λ x. Largest f s (holds x) in
     let L = vec-items (c .args .found .now) in
     let x = c .from-bits-x .result in
-    let p = parts f (c .args .sense) (g .F·FaultRule·met .«wide_parts» rule) (g .F·FaultRule·met .«narrow_parts» rule) in
+    let p = parts f s (g .F·FaultRule·met .«wide_parts» rule) (g .F·FaultRule·met .«narrow_parts» rule) in
     let e : x .bits ≡ c .args .bits = c .from-bits-x .ensures in
-    let m = maximal-largest (f .n) F p (holds (x .bits)) (c .is-largest .ensures .yes (c .if-is-largest .taken)) in
+    let m = maximal-largest f s p (holds (x .bits)) (c .is-largest .ensures .yes (c .if-is-largest .taken)) in
     let pushed : vec-items (c .push .last .self) ≡ L ++ x ∷ [] = search needs in
     subst (λ (K : List StationSet). Lists (c .args .bits + 1) P K) (sym pushed)
     (lists-push (c .args .bits) P L x l e (subst P e m))
@@ -37,9 +37,9 @@ returns-in-Continue-push g c = λ l.
 pub returns-else-is-largest : need.returns-else-is-largest
 returns-else-is-largest g c = λ l.
     let f = g .F·FaultRule .families (c .args .rule .now) in
-    let F = family f (c .args .sense) in
-    let P : ℕ → Type 0 = λ x. Largest (f .n) F (holds x) in
+    let s = c .args .sense in
+    let P : ℕ → Type 0 = λ x. Largest f s (holds x) in
     let e : c .from-bits-x .result .bits ≡ c .args .bits = c .from-bits-x .ensures in
     lists-skip (c .args .bits) P (vec-items (c .args .found .now)) l
     (λ m. c .is-largest .ensures .none (c .if-is-largest .left)
-    (largest-maximal (f .n) F (holds (c .from-bits-x .result .bits)) (subst P (sym e) m)))
+    (largest-maximal f s (holds (c .from-bits-x .result .bits)) (subst P (sym e) m)))

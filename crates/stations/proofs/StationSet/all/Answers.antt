@@ -1,5 +1,5 @@
 use mathlib.Core.Path.{ap, _∙_}
-use Prim.Native.Nat.{ℕ, min}
+use Prim.Native.Nat.{min}
 use Rattle.agreement.specs.Sets.{holds}
 use Rattle.agreement.proofs.Numbers.{holds-first}
 use Rattle.stations.proofs.StationSet.all.Needs as need

@@ -1,8 +1,7 @@
-use mathlib.Core.Path.{_≡_, ap}
-use Prim.Native.Nat.{ℕ, _*_, _%_, _^_, _≤_}
+use mathlib.Core.Path.{_≡_}
+use Prim.Native.Nat.{_*_, _%_, _^_, _≤_}
 use native.Mathlib.Omega.{arith}
 use lib.Pow.{pow-mono}
-use Rattle.agreement.specs.Sets.{holds}
 use Rattle.agreement.proofs.Numbers.{holds-one}
 use Rattle.stations.proofs.StationSet.single.Needs as need
 

@@ -1,5 +1,4 @@
-use mathlib.Core.Path.{_≡_}
-use mathlib.Core.Bool.{Bool, true, false, _&&_}
+use mathlib.Core.Bool.{false}
 use lib.Dec.{ltb}
 use Rattle.agreement.specs.Sets.{below}
 use Rattle.agreement.proofs.Tests.{and-left, and-right, and-both}

@@ -1,8 +1,8 @@
-use mathlib.Core.Path.{_≡_, sym, subst}
+use mathlib.Core.Path.{sym, subst}
 use mathlib.Core.List.{List}
 use Rattle.std.proofs.shelf.Results.{err-from-errBy}
 use Rattle.std.specs.Of.Vec.{vec-items}
-use Rattle.std.specs.declared.result.Result.the-variants.{Ok, Err}
+use Rattle.std.specs.declared.result.Result.the-variants.{Err}
 use Rattle.stations.specs.declared.StationSet.{StationSet}
 use Rattle.faults.specs.Made.{ListedMade}
 use Rattle.rulebody.specs.declared.body.RuleBody.{RuleBody}
