@@ -5,7 +5,11 @@ ghost use mathlib.Core.Bool.{cond};
 ghost use Prim.Native.Nat.{_-_, _^_, _<_, min};
 ghost use lib.Dec.{leb, ltb};
 ghost use Rattle.agreement.specs.Sets.{upTo, both, below, outside, without, either, only, inside, every, covers, tally};
+ghost use mathlib.Core.List.{_++_};
+ghost use lib.Chars.{codes};
+ghost use Rattle.std.specs.declared.option.Option.the-variants.{Some};
 ghost use Rattle.stations.specs.Members.{members};
+ghost use Rattle.stations.specs.Text.{listed};
 use std::fmt;
 
 /// A set of stations with numbers below 16: a number in which station i counts 2^i.
@@ -155,16 +159,16 @@ impl StationSet {
 
 /// The stations in ascending order, as `{0,3}`.
 pub impl fmt::Display for StationSet as StationSetDisplay {
+    ghost shown = { λ x. Some (codes "{" ++ (listed 16 (members x) ++ codes "}")) };
+
     fn fmt<W: fmt::Write>(&self, f: &mut fmt::Formatter<W>) -> fmt::Result {
-        let mut before = "{";
+        write!(f, "{{")?;
+        let mut comma = "";
         for station in 0..16u8 {
             if self.has(station) {
-                write!(f, "{before}{station}")?;
-                before = ",";
+                write!(f, "{comma}{station}")?;
+                comma = ",";
             }
-        }
-        if self.bits == 0 {
-            write!(f, "{before}")?;
         }
         write!(f, "}}")
     }
