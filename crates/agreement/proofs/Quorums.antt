@@ -9,7 +9,7 @@ use borrow.Author.Tests.{lt-ltb}
 use Rattle.agreement.specs.Sets.{Set, Some, both, below, outside, without}
 use Rattle.agreement.specs.Families.{Families, Blocking}
 use Rattle.agreement.specs.Families.{QuorumsMeet, QuorumBlocks, BlockingReachesOut, QuorumReachesOut}
-use Rattle.agreement.specs.Families.{RestSuffices, OneBlocks, LargerToo, PartsIgnore}
+use Rattle.agreement.specs.Families.{ComplementSuffices, OneBlocks, UpwardClosed, ClosedIgnores}
 use Rattle.agreement.proofs.Tests.{true-or-false, clash, same-truth, and-both, and-right}
 use Rattle.agreement.proofs.Sets.{find}
 
@@ -64,8 +64,8 @@ quorum-reaches-out f l X Z x z =
     some-of (f .n) (without X Z)
     (λ none. l .no-cover (outside X) Z (λ _. false) x z (l .empty-is-narrow) (λ j h. covered-rest (X j) (Z j) (none j h)))
 
-pub rest-suffices : RestSuffices
-rest-suffices f l Z z = (
+pub complement-suffices : ComplementSuffices
+complement-suffices f l Z z = (
   l .wide-parts (outside (outside Z)) Z (λ j h. twice-not (Z j)) z,
   blocks f (outside Z) (λ w. l .no-cover (outside Z) Z (λ _. false) w z (l .empty-is-narrow) (λ j h. covered-both (Z j))),
 )
@@ -76,13 +76,13 @@ one-blocks f l X Y Z c z = elim (true-or-false (f .wide X)) [
   | inl x ↦ inr (blocks f Y (λ y. l .no-cover X Y Z x y z c))
 ]
 
-pub larger-too : LargerToo
-larger-too f l X Y p = (
+pub upward-closed : UpwardClosed
+upward-closed f l X Y p = (
   l .wide-parts (outside Y) (outside X) (λ j h. turned (X j) (Y j) (p j h)),
   λ x. blocks f Y (λ y. clash (l .wide-parts X Y p y) x),
 )
 
-pub parts-ignore : PartsIgnore
-parts-ignore n family parts X = same-truth (family (below n X)) (family X)
+pub closed-ignores : ClosedIgnores
+closed-ignores n family parts X = same-truth (family (below n X)) (family X)
     (parts X (below n X) (λ j h t. and-both (lt-ltb j n h) t))
     (parts (below n X) X (λ j h t. and-right (ltb j n) (X j) t))

@@ -16,8 +16,8 @@ pub record Families : Type 0 where
   pub narrow : Family
 
 -- Law 1: every part of a tolerable set is tolerable in the same family; stations from n on do not count.
-abbrev pub PartsToo : ℕ → Family → Type 0
-PartsToo n family = (X Y : Set) → Part n X Y → family Y ≡ true → family X ≡ true
+abbrev pub DownwardClosed : ℕ → Family → Type 0
+DownwardClosed n family = (X Y : Set) → Part n X Y → family Y ≡ true → family X ≡ true
 
 -- Stations from n on are ignored.
 abbrev pub Ignores : ℕ → Family → Type 0
@@ -38,8 +38,8 @@ NoCover f =
 
 -- The four laws.
 pub record Laws (f : Families) : Type 0 where
-  pub wide-parts : PartsToo (f .n) (f .wide)
-  pub narrow-parts : PartsToo (f .n) (f .narrow)
+  pub wide-parts : DownwardClosed (f .n) (f .wide)
+  pub narrow-parts : DownwardClosed (f .n) (f .narrow)
   pub narrow-is-wide : NarrowIsWide f
   pub empty-is-narrow : EmptyIsNarrow f
   pub no-cover : NoCover f
@@ -74,8 +74,8 @@ QuorumReachesOut =
     (f : Families) → Laws f → (X Z : Set) → Quorum f X → f .wide Z ≡ true → Some (f .n) (without X Z)
 
 -- The stations outside a wide-tolerable set are a quorum and are blocking.
-abbrev pub RestSuffices : Type 0
-RestSuffices =
+abbrev pub ComplementSuffices : Type 0
+ComplementSuffices =
     (f : Families) → Laws f → (Z : Set) → f .wide Z ≡ true → Quorum f (outside Z) × Blocking f (outside Z)
 
 -- Of two sets that with a narrow-tolerable one hold everybody, one is blocking.
@@ -85,11 +85,11 @@ OneBlocks =
     → Blocking f X ⊎ Blocking f Y
 
 -- What holds every station of a quorum is a quorum, and what holds every station of a blocking set is blocking.
-abbrev pub LargerToo : Type 0
-LargerToo =
+abbrev pub UpwardClosed : Type 0
+UpwardClosed =
     (f : Families) → Laws f → (X Y : Set) → Part (f .n) X Y
     → (Quorum f X → Quorum f Y) × (Blocking f X → Blocking f Y)
 
 -- A family that keeps law 1 ignores the stations from n on.
-abbrev pub PartsIgnore : Type 0
-PartsIgnore = (n : ℕ) (family : Family) → PartsToo n family → Ignores n family
+abbrev pub ClosedIgnores : Type 0
+ClosedIgnores = (n : ℕ) (family : Family) → DownwardClosed n family → Ignores n family

@@ -3,7 +3,7 @@
 //! A function here has no work to do: its contract is a theorem, and the check asks for the proof.
 
 ghost use Rattle.agreement.specs.Families.{QuorumsMeet, QuorumBlocks, BlockingReachesOut, QuorumReachesOut};
-ghost use Rattle.agreement.specs.Families.{RestSuffices, OneBlocks, LargerToo, PartsIgnore};
+ghost use Rattle.agreement.specs.Families.{ComplementSuffices, OneBlocks, UpwardClosed, ClosedIgnores};
 ghost use Rattle.agreement.specs.Sets.{NumbersAreSets, SetsAreNumbers};
 
 /// Sets of stations below n and numbers below 2 ^ n are the same thing: station i counts 2 ^ i.
@@ -18,8 +18,8 @@ pub fn laws_give_quorums()
     ensures quorum_outside_narrow_blocks { λ _. ⌜ QuorumBlocks ⌝ }
     ensures blocking_reaches_outside_wide { λ _. ⌜ BlockingReachesOut ⌝ }
     ensures quorum_reaches_outside_wide { λ _. ⌜ QuorumReachesOut ⌝ }
-    ensures rest_of_wide_suffices { λ _. ⌜ RestSuffices ⌝ }
+    ensures rest_of_wide_suffices { λ _. ⌜ ComplementSuffices ⌝ }
     ensures one_of_two_blocks { λ _. ⌜ OneBlocks ⌝ }
-    ensures larger_sets_too { λ _. ⌜ LargerToo ⌝ }
-    ensures stations_from_n_ignored { λ _. ⌜ PartsIgnore ⌝ }
+    ensures larger_sets_too { λ _. ⌜ UpwardClosed ⌝ }
+    ensures stations_from_n_ignored { λ _. ⌜ ClosedIgnores ⌝ }
 {}

@@ -8,7 +8,7 @@ use lib.Dec.{leb}
 use lib.ListN.{length}
 use borrow.Author.Tests.{leb-true, le-leb, lt-ltb}
 use Rattle.agreement.specs.Sets.{tally}
-use Rattle.agreement.specs.Families.{PartsToo, Laws}
+use Rattle.agreement.specs.Families.{DownwardClosed, Laws}
 use Rattle.agreement.proofs.Tests.{clash, and-both}
 use Rattle.agreement.proofs.Sets.{tally-part, tally-cover, tally-empty, inside-part, part-inside}
 use Rattle.stations.specs.declared.StationSet.{StationSet}
@@ -17,7 +17,7 @@ use Rattle.faults.specs.Rules.{threshold, listed}
 use Rattle.faults.specs.Lists.{at, Nested, Apart}
 use Rattle.faults.proofs.Within.{within-at, within-some, within-parts, cover-larger}
 
-at-most-parts : (n m : ℕ) → PartsToo n (λ X. leb (tally n X) m)
+at-most-parts : (n m : ℕ) → DownwardClosed n (λ X. leb (tally n X) m)
 at-most-parts n m X Y p h = le-leb (tally n X) m (omega (arith, tally-part n X Y p, leb-true (tally n Y) m h))
 
 pub threshold-laws : (n s a : ℕ) → a ≤ s → a + 2 * s < n → Laws (threshold n s a)

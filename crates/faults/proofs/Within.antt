@@ -7,7 +7,7 @@ use Prim.Native.Nat.{ℕ, zero, suc, _<_}
 use native.Mathlib.Omega.{arith}
 use lib.ListN.{length}
 use Rattle.agreement.specs.Sets.{Set, Cover, either, inside, covers}
-use Rattle.agreement.specs.Families.{PartsToo}
+use Rattle.agreement.specs.Families.{DownwardClosed}
 use Rattle.agreement.proofs.Tests.{true-or-false, clash}
 use Rattle.agreement.proofs.Sets.{inside-part, part-inside, every-from}
 use Rattle.stations.specs.declared.StationSet.{StationSet}
@@ -42,7 +42,7 @@ within-some n (G ∷ Gs) X e = elim (true-or-false (inside n X (members G))) [
     rest : {a b : Bool} → a ≡ false → (a || b) ≡ true → b ≡ true
     rest {a} {b} p q = grind arith
 
-pub within-parts : (n : ℕ) (L : List StationSet) → PartsToo n (within n L)
+pub within-parts : (n : ℕ) (L : List StationSet) → DownwardClosed n (within n L)
 within-parts n L X Y p e =
     let r = within-some n L Y e in
     let q = inside-part n Y (members (at L (r .0))) (r .2) in

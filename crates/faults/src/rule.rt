@@ -4,7 +4,7 @@ ghost use mathlib.Core.Path.{_≡_};
 ghost use mathlib.Core.Bool.{not};
 ghost use Prim.Native.Nat.{_≤_};
 ghost use Rattle.agreement.specs.Sets.{outside};
-ghost use Rattle.agreement.specs.Families.{Families, Laws, PartsToo, Ignores, NarrowIsWide, EmptyIsNarrow, NoCover};
+ghost use Rattle.agreement.specs.Families.{Families, Laws, DownwardClosed, Ignores, NarrowIsWide, EmptyIsNarrow, NoCover};
 ghost use Rattle.stations.specs.Members.{members};
 ghost use Rattle.faults.specs.Senses.{family};
 use stations::StationSet;
@@ -26,9 +26,9 @@ pub trait FaultRule {
 
     law size_to_10: { (f : Self) → families f .n ≤ 10 };
 
-    law wide_parts: { (f : Self) → PartsToo (families f .n) (families f .wide) };
+    law wide_parts: { (f : Self) → DownwardClosed (families f .n) (families f .wide) };
 
-    law narrow_parts: { (f : Self) → PartsToo (families f .n) (families f .narrow) };
+    law narrow_parts: { (f : Self) → DownwardClosed (families f .n) (families f .narrow) };
 
     law wide_ignores: { (f : Self) → Ignores (families f .n) (families f .wide) };
 

@@ -7,7 +7,7 @@ use native.Mathlib.Omega.{arith}
 use lib.Dec.{eqb}
 use borrow.Author.Tests.{eqb-true, eq-eqb}
 use Rattle.agreement.specs.Sets.{Set, Part, either, only}
-use Rattle.agreement.specs.Families.{Families, PartsToo}
+use Rattle.agreement.specs.Families.{Families, DownwardClosed}
 use Rattle.agreement.proofs.Tests.{true-or-false, clash}
 use Rattle.faults.specs.declared.rule.Sense.{Sense}
 use Rattle.faults.specs.Senses.{family}
@@ -23,7 +23,7 @@ grown n X Y i p y j h e = elim (true-or-false (X j)) [
     right : (a b : Bool) → a ≡ false → (a || b) ≡ true → b ≡ true
     right a b p q = grind arith
 
-pub maximal-largest : (f : Families) (s : Sense) → PartsToo (f .n) (family f s) → (X : Set) → Maximal f s X → Largest f s X
+pub maximal-largest : (f : Families) (s : Sense) → DownwardClosed (f .n) (family f s) → (X : Set) → Maximal f s X → Largest f s X
 maximal-largest f s parts X m = (
   m .0,
   λ Y y p j h e. elim (true-or-false (X j)) [

@@ -4,7 +4,7 @@ use mathlib.Core.List.{List, [], _∷_, _++_}
 use Prim.Native.Nat.{ℕ, _+_}
 use Rattle.std.specs.Of.Vec.{vec-items}
 use Rattle.agreement.specs.Sets.{holds}
-use Rattle.agreement.specs.Families.{Families, PartsToo}
+use Rattle.agreement.specs.Families.{Families, DownwardClosed}
 use Rattle.stations.specs.declared.StationSet.{StationSet}
 use Rattle.faults.specs.declared.rule.Sense.{Sense}
 use Rattle.faults.specs.declared.rule.Sense.the-variants.{Wide, Narrow}
@@ -15,7 +15,7 @@ use Rattle.survey.proofs.Listing.{lists-skip, lists-push}
 use Rattle.survey.proofs.gather.Needs as need
 
 -- both families have every part of their sets
-parts : (f : Families) (s : Sense) → PartsToo (f .n) (f .wide) → PartsToo (f .n) (f .narrow) → PartsToo (f .n) (family f s)
+parts : (f : Families) (s : Sense) → DownwardClosed (f .n) (f .wide) → DownwardClosed (f .n) (f .narrow) → DownwardClosed (f .n) (family f s)
 parts f Wide w n = w
 parts f Narrow w n = n
 

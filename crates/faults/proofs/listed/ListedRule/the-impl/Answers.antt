@@ -1,6 +1,6 @@
 use Rattle.std.specs.Of.Vec.{vec-items}
 use Rattle.agreement.specs.Families.{Laws}
-use Rattle.agreement.proofs.Quorums.{parts-ignore}
+use Rattle.agreement.proofs.Quorums.{closed-ignores}
 use Rattle.faults.specs.declared.listed.Listed.{Listed}
 use Rattle.faults.specs.Rules.{listed}
 use Rattle.faults.proofs.Laws.{listed-laws}
@@ -25,7 +25,7 @@ pub no-cover-law : need.no-cover-law
 no-cover-law t = laws t .no-cover
 
 pub wide-ignores-law : need.wide-ignores-law
-wide-ignores-law t = parts-ignore (t .n) (listed (t .n) (vec-items (t .wide)) (vec-items (t .narrow)) .wide) (laws t .wide-parts)
+wide-ignores-law t = closed-ignores (t .n) (listed (t .n) (vec-items (t .wide)) (vec-items (t .narrow)) .wide) (laws t .wide-parts)
 
 pub narrow-ignores-law : need.narrow-ignores-law
-narrow-ignores-law t = parts-ignore (t .n) (listed (t .n) (vec-items (t .wide)) (vec-items (t .narrow)) .narrow) (laws t .narrow-parts)
+narrow-ignores-law t = closed-ignores (t .n) (listed (t .n) (vec-items (t .wide)) (vec-items (t .narrow)) .narrow) (laws t .narrow-parts)

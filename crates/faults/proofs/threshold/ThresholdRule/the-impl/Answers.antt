@@ -1,5 +1,5 @@
 use Rattle.agreement.specs.Families.{Laws}
-use Rattle.agreement.proofs.Quorums.{parts-ignore}
+use Rattle.agreement.proofs.Quorums.{closed-ignores}
 use Rattle.faults.specs.declared.threshold.Threshold.{Threshold}
 use Rattle.faults.specs.Rules.{threshold}
 use Rattle.faults.proofs.Laws.{threshold-laws}
@@ -21,7 +21,7 @@ pub no-cover-law : need.no-cover-law
 no-cover-law t = laws t .no-cover
 
 pub wide-ignores-law : need.wide-ignores-law
-wide-ignores-law t = parts-ignore (t .n) (threshold (t .n) (t .s) (t .a) .wide) (laws t .wide-parts)
+wide-ignores-law t = closed-ignores (t .n) (threshold (t .n) (t .s) (t .a) .wide) (laws t .wide-parts)
 
 pub narrow-ignores-law : need.narrow-ignores-law
-narrow-ignores-law t = parts-ignore (t .n) (threshold (t .n) (t .s) (t .a) .narrow) (laws t .narrow-parts)
+narrow-ignores-law t = closed-ignores (t .n) (threshold (t .n) (t .s) (t .a) .narrow) (laws t .narrow-parts)

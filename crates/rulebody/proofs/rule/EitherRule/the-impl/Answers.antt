@@ -1,6 +1,6 @@
 use Rattle.std.specs.Of.Vec.{vec-items}
 use Rattle.agreement.specs.Families.{Laws}
-use Rattle.agreement.proofs.Quorums.{parts-ignore}
+use Rattle.agreement.proofs.Quorums.{closed-ignores}
 use Rattle.faults.proofs.Laws.{threshold-laws, listed-laws}
 use Rattle.rulebody.specs.declared.rule.Rule.{Rule}
 use Rattle.rulebody.specs.declared.rule.Rule.the-variants.{Threshold, Listed}
@@ -35,7 +35,7 @@ pub no-cover-law : need.no-cover-law
 no-cover-law r = laws r .no-cover
 
 pub wide-ignores-law : need.wide-ignores-law
-wide-ignores-law r = parts-ignore (meant r .n) (meant r .wide) (laws r .wide-parts)
+wide-ignores-law r = closed-ignores (meant r .n) (meant r .wide) (laws r .wide-parts)
 
 pub narrow-ignores-law : need.narrow-ignores-law
-narrow-ignores-law r = parts-ignore (meant r .n) (meant r .narrow) (laws r .narrow-parts)
+narrow-ignores-law r = closed-ignores (meant r .n) (meant r .narrow) (laws r .narrow-parts)
