@@ -25,8 +25,8 @@ pub struct Listed {
     ghost apart: { Apart n (vec-items narrow) (vec-items wide) },
 }
 
-// The place of the first listed set in which x lies.
-fn first_around(x: StationSet, list: &[StationSet], n: u8) -> Option<usize>
+// The place of a listed set in which x lies, if there is one.
+fn place_around(x: StationSet, list: &[StationSet], n: u8) -> Option<usize>
     ensures { λ r. ⌜ Around n (members x) (now (list .entry)) r ⌝ }
 {
     for (i, set) in list.iter().enumerate() {
@@ -41,7 +41,7 @@ fn first_around(x: StationSet, list: &[StationSet], n: u8) -> Option<usize>
 fn lies_within(x: StationSet, list: &[StationSet], n: u8) -> bool
     ensures { λ r. ⌜ r ≡ within n (now (list .entry)) (members x) ⌝ }
 {
-    first_around(x, list, n).is_some()
+    place_around(x, list, n).is_some()
 }
 
 pub impl FaultRule for Listed as ListedRule {

@@ -20,4 +20,4 @@ found n L X (Some i) here = sym (within-at n L X i (here .0) (here .1))
 pub returns : need.returns
 returns c =
     c .is-some .ensures
-    ∙ found (c .args .n) (c .args .list .now) (members (c .args .x)) (c .first-around .result) (c .first-around .ensures)
+    ∙ found (c .args .n) (c .args .list .now) (members (c .args .x)) (c .place-around .result) (c .place-around .ensures)
