@@ -44,11 +44,11 @@ pub record Laws (f : Families) : Type 0 where
   pub empty-is-narrow : EmptyIsNarrow f
   pub no-cover : NoCover f
 
--- A blocking set is not wide-tolerable, so it has a station outside every wide-tolerable set.
+-- A blocking set is not wide-tolerable.
 abbrev pub Blocking : Families → Set → Type 0
 Blocking f X = f .wide X ≡ false
 
--- A quorum leaves out a wide-tolerable set only.
+-- A quorum is a set such that the stations outside it are wide-tolerable.
 abbrev pub Quorum : Families → Set → Type 0
 Quorum f X = f .wide (outside X) ≡ true
 

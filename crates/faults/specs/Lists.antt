@@ -43,7 +43,7 @@ Apart n N W =
     (t : ℕ × ℕ × ℕ) → (ltb (t .0) (length N) && (ltb (t .1) (length W) && ltb (t .2) (length W))) ≡ true
     → covered n N W (t .0) (t .1) (t .2) ≡ false
 
--- The first three places, in the order narrow, first wide, second wide, whose sets hold every station.
+-- The first triple of places, in the order narrow, first wide, second wide, whose sets hold every station.
 pub record FirstThree (n : ℕ) (N W : List StationSet) (t : Three) : Type 0 where
   pub narrow-there : t .narrow < length N
   pub first-there : t .wide .0 < length W
@@ -58,7 +58,7 @@ abbrev pub Around : ℕ → Set → List StationSet → Option ℕ → Type 0
 Around n X L None = (k : ℕ) → k < length L → inside n X (members (at L k)) ≡ false
 Around n X L (Some i) = (i < length L) × (inside n X (members (at L i)) ≡ true)
 
--- The first three places whose sets hold every station, or none where no three do.
+-- The first triple of places whose sets hold every station, or none where no triple is so.
 abbrev pub CoverFound : ℕ → List StationSet → List StationSet → Option Three → Type 0
 CoverFound n N W None = Apart n N W
 CoverFound n N W (Some t) = FirstThree n N W t

@@ -50,7 +50,7 @@ abbrev pub ThresholdMade : ℕ → ℕ → ℕ → Result Threshold Fault → Ty
 ThresholdMade n s a (Ok t) = ThresholdFault n s a None × (t .n ≡ n) × (t .s ≡ s) × (t .a ≡ a)
 ThresholdMade n s a (Err e) = ThresholdFault n s a (Some e)
 
--- A listed rule with these lists, or its first fault, or none and no memory for it.
+-- A listed rule with these lists; or its first fault; or, where there is no fault, that memory is short.
 abbrev pub ListedMade : ℕ → List StationSet → List StationSet → Result Listed Fault → Type 0
 ListedMade n W N (Ok t) =
     ListedFault n W N None × (t .n ≡ n) × (vec-items (t .wide) ≡ W) × (vec-items (t .narrow) ≡ N)

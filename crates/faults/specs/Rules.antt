@@ -17,7 +17,7 @@ abbrev pub within : ℕ → List StationSet → Family
 within n [] X = false
 within n (G ∷ Gs) X = inside n X (members G) || within n Gs X
 
--- By lists: tolerable is what lies inside a set of the wide list, and of the narrow list.
+-- By lists: wide is what lies inside a set of the wide list, narrow what lies inside a set of the narrow list.
 abbrev pub listed : ℕ → List StationSet → List StationSet → Families
 listed n W N = record { n = n; wide = within n W; narrow = within n N }
 

@@ -5,7 +5,8 @@ ghost use Rattle.faults.specs.Faults.{number};
 ghost use Rattle.faults.specs.declared.fault.Fault.the-variants.{Memory};
 use std::alloc::AllocError;
 
-/// A narrow set and two wide ones that together hold every station, each by its place in its list.
+/// A narrow set and two wide ones that together hold every station, each by its place in its list. The two
+/// wide ones may be the same.
 #[derive(Clone, Copy, PartialEq, Eq, Debug)]
 pub struct Three {
     pub narrow: usize,

@@ -9,8 +9,9 @@ ghost use Rattle.stations.specs.Members.{members};
 ghost use Rattle.faults.specs.Senses.{family};
 use stations::StationSet;
 
-/// The two senses in which guests are tolerated: wide, own stations that open alike decide so;
-/// narrow, no two own stations decide differently either.
+/// The two senses in which guests are tolerated. Own stations are those that are no guests and follow the
+/// protocol; a station opens a cue with a bit. Wide: own stations that all open with one bit decide it.
+/// Narrow: besides, no two own stations decide differently.
 #[derive(Clone, Copy)]
 pub enum Sense {
     Wide,

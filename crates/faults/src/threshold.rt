@@ -7,7 +7,7 @@ use stations::StationSet;
 
 mod making;
 
-/// Any s stations may be guests in the wide sense, and any a in the narrow one.
+/// At most s stations may be guests in the wide sense, and at most a in the narrow one.
 #[derive(Clone, Copy)]
 pub struct Threshold {
     n: u8,

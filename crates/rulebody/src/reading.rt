@@ -5,7 +5,7 @@ ghost use mathlib.Core.Bool.{true, false};
 ghost use Prim.Native.Nat.{ℕ, _+_, _*_, _<_, _≤_};
 ghost use lib.ListN.{length};
 ghost use Rattle.std.specs.Of.Vec.{vec-items};
-ghost use Rattle.std.specs.Vec.{made};
+ghost use Rattle.std.specs.Results.{Cases as ByOk};
 ghost use Rattle.rulebody.specs.Format.{byte, word, IsListed, SetsAt};
 ghost use Rattle.rulebody.specs.Bodies.{BodyRead};
 use crate::body::RuleBody;
@@ -23,7 +23,7 @@ fn word_at(bytes: &[u8], place: usize) -> u16
     bytes[place] as u16 + 256 * bytes[place + 1] as u16
 }
 
-// Whether the first sets after the head have no bit above 9.
+// Whether none of the sets after the head has a bit above 9.
 fn are_low(bytes: &[u8], sets: usize) -> bool
     requires { ⌜ length (now bytes) ≡ 4 + 2 * sets ⌝ }
     ensures yes { λ r. ⌜ (r ≡ true → (k : ℕ) → k < sets → word (now (bytes .entry)) (4 + 2 * k) < 1024) ⌝ }
@@ -57,7 +57,7 @@ fn sets_at(
     count: usize,
 ) -> Result<Vec<StationSet>, AllocError>
     requires { ⌜ from + 2 * count ≤ length (now bytes) ⌝ }
-    ensures { λ r. ⌜ made r (λ v. SetsAt (now (bytes .entry)) from count (vec-items v)) ⌝ }
+    ensures { λ r. ⌜ ByOk r (λ v. SetsAt (now (bytes .entry)) from count (vec-items v)) (λ _. 0 < count) ⌝ }
 {
     let mut sets = Vec::new(heap);
     for i in 0..count {
@@ -67,7 +67,7 @@ fn sets_at(
 }
 
 impl RuleBody {
-    /// The body that stands in the bytes.
+    /// The body that stands in the bytes; refused with 24 where none can, and with 51 for want of memory.
     pub fn read(heap: Global, bytes: &[u8]) -> Result<RuleBody, Fault>
         ensures { λ r. ⌜ BodyRead (now (bytes .entry)) r ⌝ }
     {

@@ -58,7 +58,7 @@ impl StationSet {
         StationSet::all(n).intersection(self)
     }
 
-    /// The stations below n that are not in the set.
+    /// The stations below n, and below 16, that are not in the set.
     pub fn rest(self, n: u8) -> StationSet
         ensures { λ r. ⌜ members r ≡ below (min n 16) (outside (members self)) ⌝ }
     {

@@ -1,4 +1,4 @@
-//! Up to which guests a fault rule tolerates.
+//! The largest sets of guests that a fault rule tolerates.
 
 ghost use mathlib.Core.Path.{_≡_};
 ghost use mathlib.Core.Bool.{true, false};

@@ -178,7 +178,16 @@ fn bodies_are_read_or_refused(rt: LibcRuntime) -> Result<(), Fail> {
     check_eq(body_number(heap, &[2, 4, 1, 1, 1, 2, 1, 0]), 4)?;
     check_eq(body_number(heap, &[2, 4, 1, 1, 1, 0, 2, 0]), 2)?;
     check_eq(body_number(heap, &[2, 4, 2, 1, 3, 0, 12, 0, 3, 0]), 3)?;
-    check_eq(body_number(heap, &[2, 10, 1, 1, 1, 3, 1, 2]), 0)
+    check_eq(body_number(heap, &[2, 10, 1, 1, 1, 3, 1, 2]), 0)?;
+    let mut long = [0u8; 24];
+    long[0] = 2;
+    long[1] = 4;
+    long[2] = 9;
+    long[3] = 1;
+    check_eq(body_number(heap, &long), 4)?;
+    long[2] = 1;
+    long[3] = 9;
+    check_eq(body_number(heap, &long), 4)
 }
 
 #[test]
@@ -210,6 +219,16 @@ fn seven_stations_are_surveyed(rt: LibcRuntime) -> Result<(), Fail> {
     check_eq(wide[0], set(7))?;
     check_eq(wide[1], set(11))?;
     check_eq(wide[34], set(112))
+}
+
+#[test]
+fn ten_stations_are_surveyed(rt: LibcRuntime) -> Result<(), Fail> {
+    let rule = Threshold::new(10, 4, 1)?;
+    let narrow = largest_sets(rt.alloc(), &rule, Sense::Narrow)?;
+    check_eq(narrow.len(), 10)?;
+    let wide = largest_sets(rt.alloc(), &rule, Sense::Wide)?;
+    check(wide.len() == 210)?;
+    check_eq(wide[209], set(960))
 }
 
 #[test]

@@ -5,7 +5,7 @@ use crate::fault::Fault;
 use crate::threshold::Threshold;
 
 impl Threshold {
-    /// The rule of n stations that tolerates any s in the wide sense and any a in the narrow one.
+    /// The rule of n stations that tolerates at most s guests in the wide sense and at most a in the narrow one.
     pub fn new(n: u8, s: u8, a: u8) -> Result<Threshold, Fault>
         ensures { λ r. ⌜ ThresholdMade n s a r ⌝ }
     {
