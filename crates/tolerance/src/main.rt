@@ -1,4 +1,4 @@
-//! Says up to which guests a fault rule tolerates: reads a rule body on standard input.
+//! Says which guests a fault rule tolerates: reads a rule body on standard input.
 
 use faults::fault::Fault;
 use faults::fault::Three;
@@ -9,125 +9,138 @@ use rulebody::rule::EitherRule;
 use rulebody::rule::Rule;
 use stations::StationSet;
 use stations::StationSetDisplay;
+use std::alloc::Global;
 use std::error::AnyError;
-use std::io;
+use std::fmt;
+use std::fmt::Write;
 use std::io::Read;
 use survey::largest_sets;
+
+#[cfg(test)]
+mod tests;
 
 fn main(rt: LibcRuntime) -> Result<(), AnyError> {
     let mut bytes = Vec::new(rt.alloc());
     rt.stdin().read_to_end(&mut bytes)?;
-    match RuleBody::read(rt.alloc(), bytes.as_slice()) {
-        Ok(body) => answer(&rt, &body),
-        Err(fault) => {
-            print_refusal(&rt, fault)?;
-            Ok(())
-        }
+    let text = report(rt.alloc(), bytes.as_slice())?;
+    print!(rt, "{text}")?;
+    Ok(())
+}
+
+// What is said of a rule body.
+fn report(heap: Global, bytes: &[u8]) -> Result<String, AnyError> {
+    let mut text = String::new(heap);
+    match RuleBody::read(heap, bytes) {
+        Ok(body) => tell_rule(&mut text, heap, &body)?,
+        Err(fault) => tell_refusal(&mut text, fault)?,
     }
+    Ok(text)
 }
 
 // The rule in words, then the guests that it tolerates or why it is refused.
-fn answer(rt: &LibcRuntime, body: &RuleBody) -> Result<(), AnyError> {
-    print_body(rt, body)?;
-    match body.make(rt.alloc()) {
+fn tell_rule(text: &mut String, heap: Global, body: &RuleBody) -> Result<(), AnyError> {
+    tell_body(text, body)?;
+    match body.make(heap) {
         Ok(rule) => {
-            print_largest(rt, &rule, Sense::Narrow)?;
-            print_largest(rt, &rule, Sense::Wide)
+            tell_largest(text, heap, &rule, Sense::Narrow)?;
+            tell_largest(text, heap, &rule, Sense::Wide)
         }
         Err(fault) => {
-            print_refusal(rt, fault)?;
+            tell_refusal(text, fault)?;
             if let Fault::CoveredBy(three) = fault {
-                print_three(rt, body, three)?;
+                tell_three(text, body, three)?;
             }
             Ok(())
         }
     }
 }
 
-fn print_body(rt: &LibcRuntime, body: &RuleBody) -> io::Result<()> {
+fn tell_body(text: &mut String, body: &RuleBody) -> fmt::Result {
     match body {
         RuleBody::Threshold { n, s, a } => {
-            println!(rt, "Threshold rule; stations: {n}")?;
-            println!(rt, "  wide guests: at most {s} of the stations")?;
-            println!(rt, "  narrow guests: at most {a} of the stations")
+            writeln!(text, "Threshold rule; stations: {n}")?;
+            writeln!(text, "  wide guests: at most {s} of the stations")?;
+            writeln!(text, "  narrow guests: at most {a} of the stations")
         }
         RuleBody::Listed { n, wide, narrow } => {
-            println!(rt, "Listed rule; stations: {n}")?;
-            print_list(rt, "wide", wide.as_slice())?;
-            print_list(rt, "narrow", narrow.as_slice())
+            writeln!(text, "Listed rule; stations: {n}")?;
+            tell_list(text, "wide", wide.as_slice())?;
+            tell_list(text, "narrow", narrow.as_slice())
         }
     }
 }
 
-fn print_list(rt: &LibcRuntime, sense: &str, sets: &[StationSet]) -> io::Result<()> {
-    print!(rt, "  {sense} guests: any part of one of")?;
+fn tell_list(text: &mut String, sense: &str, sets: &[StationSet]) -> fmt::Result {
+    write!(text, "  {sense} guests: any part of one of")?;
     if sets.is_empty() {
-        print!(rt, " no sets")?;
+        write!(text, " no sets")?;
     }
     for set in sets {
-        print!(rt, " {set}")?;
+        write!(text, " {set}")?;
     }
-    println!(rt, "")
+    writeln!(text, "")
 }
 
-fn print_largest(rt: &LibcRuntime, rule: &Rule, sense: Sense) -> Result<(), AnyError> {
-    let sets = largest_sets(rt.alloc(), rule, sense)?;
+fn tell_largest(
+    text: &mut String,
+    heap: Global,
+    rule: &Rule,
+    sense: Sense,
+) -> Result<(), AnyError> {
+    let sets = largest_sets(heap, rule, sense)?;
     let count = sets.len();
-    println!(rt, "")?;
+    writeln!(text, "")?;
     match sense {
         Sense::Narrow => {
-            println!(
-                rt,
+            writeln!(
+                text,
                 "Narrow guests: with them no two own stations may decide differently."
             )?;
-            println!(rt, "Largest narrow-tolerable guest sets: {count}")?;
+            writeln!(text, "Largest narrow-tolerable guest sets: {count}")?;
         }
         Sense::Wide => {
-            println!(
-                rt,
+            writeln!(
+                text,
                 "Wide guests: with them own stations that open alike must decide as they opened."
             )?;
-            println!(rt, "Largest wide-tolerable guest sets: {count}")?;
+            writeln!(text, "Largest wide-tolerable guest sets: {count}")?;
         }
     }
     for set in &sets {
-        println!(rt, "  {set}")?;
+        writeln!(text, "  {set}")?;
     }
     Ok(())
 }
 
-fn print_refusal(rt: &LibcRuntime, fault: Fault) -> io::Result<()> {
+fn tell_refusal(text: &mut String, fault: Fault) -> fmt::Result {
     let number = fault.number();
-    let why = reason(fault);
-    println!(rt, "Refused, number {number}: {why}.")
-}
-
-fn reason(fault: Fault) -> &'static str {
-    match fault {
+    let why = match fault {
         Fault::Size => "a rule has 1 to 10 stations",
         Fault::NarrowBeyondWide => "some narrow guests would not be wide guests too",
-        Fault::Cover => "twice the wide guests and the narrow guests could be all the stations",
+        Fault::Cover =>
+            "two sets of wide guests and one of narrow guests could be all the stations",
         Fault::CoveredBy(_) =>
             "these sets, two wide and one narrow, hold all the stations (places count from 0)",
         Fault::Lists => "a list must have 1 to 8 sets, all of stations that the rule has",
         Fault::Form => "these bytes are not a rule body",
         Fault::Memory => "there is no memory for the rule",
-    }
+    };
+    writeln!(text, "Refused, number {number}: {why}.")
 }
 
 // The three sets that hold every station, by place and by what is in them.
-fn print_three(rt: &LibcRuntime, body: &RuleBody, three: Three) -> io::Result<()> {
+fn tell_three(text: &mut String, body: &RuleBody, three: Three) -> fmt::Result {
     if let RuleBody::Listed { wide, narrow, .. } = body {
-        print_at(rt, "narrow", narrow.as_slice(), three.narrow)?;
-        print_at(rt, "wide", wide.as_slice(), three.wide.0)?;
-        print_at(rt, "wide", wide.as_slice(), three.wide.1)?;
+        tell_at(text, "narrow", narrow.as_slice(), three.narrow)?;
+        tell_at(text, "wide", wide.as_slice(), three.wide.0)?;
+        tell_at(text, "wide", wide.as_slice(), three.wide.1)?;
     }
     Ok(())
 }
 
-fn print_at(rt: &LibcRuntime, list: &str, sets: &[StationSet], place: usize) -> io::Result<()> {
+fn tell_at(text: &mut String, list: &str, sets: &[StationSet], place: usize) -> fmt::Result {
     match sets.get(place) {
-        Some(set) => println!(rt, "  {list} list, place {place}: {set}"),
+        Some(set) => writeln!(text, "  {list} list, place {place}: {set}"),
         None => Ok(()),
     }
 }
