@@ -33,7 +33,7 @@ Refused, number 2: some narrow guests would not be wide guests too.
 }
 
 #[test]
-fn refusals_are_told(rt: LibcRuntime) -> Result<(), Fail> {
+fn refused_lists_are_told(rt: LibcRuntime) -> Result<(), Fail> {
     let covered = report(rt.alloc(), &[2, 4, 3, 2, 1, 0, 3, 0, 12, 0, 1, 0, 3, 0])?;
     check(
         covered.as_str()
@@ -54,7 +54,11 @@ Refused, number 3: these sets, two wide and one narrow, hold all the stations (p
   narrow guests: any part of one of {4}
 Refused, number 4: a list must have 1 to 8 sets, all of stations that the rule has.
 ",
-    )?;
+    )
+}
+
+#[test]
+fn other_refusals_are_told(rt: LibcRuntime) -> Result<(), Fail> {
     let form = report(rt.alloc(), &[1, 4, 1])?;
     check(
         form.as_str()
