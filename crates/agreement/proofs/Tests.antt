@@ -1,6 +1,6 @@
 -- Small facts on tests.
 use mathlib.Core.Path.{_≡_, refl}
-use mathlib.Core.Bool.{Bool, true, false, not, _&&_}
+use mathlib.Core.Bool.{Bool, true, false, not, _&&_, _||_}
 use mathlib.Core.Logic.{_⊎_, inl, inr}
 use Prim.Native.Nat.{ℕ}
 use native.Mathlib.Omega.{arith}
@@ -29,6 +29,17 @@ and-right false false e = e
 
 pub and-both : {a b : Bool} → a ≡ true → b ≡ true → (a && b) ≡ true
 and-both p q = rw (p, q) refl
+
+pub or-left : (a b : Bool) → a ≡ true → (a || b) ≡ true
+or-left a b p = rw p refl
+
+pub or-right : (a b : Bool) → b ≡ true → (a || b) ≡ true
+or-right true b p = refl
+or-right false b p = p
+
+-- the second holds where the first does not
+pub or-rest : (a b : Bool) → a ≡ false → (a || b) ≡ true → b ≡ true
+or-rest a b p q = grind arith
 
 -- `not (a && not b)` says that b holds where a does
 pub implied : (a b : Bool) → not (a && not b) ≡ true → a ≡ true → b ≡ true

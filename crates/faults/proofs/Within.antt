@@ -8,16 +8,12 @@ use native.Mathlib.Omega.{arith}
 use lib.ListN.{length}
 use Rattle.agreement.specs.Sets.{Set, Cover, either, inside, covers}
 use Rattle.agreement.specs.Families.{DownwardClosed}
-use Rattle.agreement.proofs.Tests.{true-or-false, clash}
+use Rattle.agreement.proofs.Tests.{true-or-false, clash, or-right, or-rest}
 use Rattle.agreement.proofs.Sets.{inside-part, part-inside, every-from}
 use Rattle.stations.specs.declared.StationSet.{StationSet}
 use Rattle.stations.specs.Members.{members}
 use Rattle.faults.specs.Rules.{within}
 use Rattle.faults.specs.Lists.{at}
-
-or-right : (a b : Bool) → b ≡ true → (a || b) ≡ true
-or-right true b h = refl
-or-right false b h = h
 
 pub within-at : (n : ℕ) (L : List StationSet) (X : Set) (i : ℕ) → i < length L → inside n X (members (at L i)) ≡ true
     → within n L X ≡ true
@@ -36,11 +32,8 @@ pub within-some : (n : ℕ) (L : List StationSet) (X : Set) → within n L X ≡
 within-some n [] X e = absurd (clash e refl)
 within-some n (G ∷ Gs) X e = elim (true-or-false (inside n X (members G))) [
   | inl t ↦ (0, omega arith, t)
-  | inr t ↦ let r = within-some n Gs X (rest t e) in (suc (r .0), omega (arith, r .1), r .2)
+  | inr t ↦ let r = within-some n Gs X (or-rest (inside n X (members G)) (within n Gs X) t e) in (suc (r .0), omega (arith, r .1), r .2)
 ]
-  where
-    rest : {a b : Bool} → a ≡ false → (a || b) ≡ true → b ≡ true
-    rest {a} {b} p q = grind arith
 
 pub within-parts : (n : ℕ) (L : List StationSet) → DownwardClosed n (within n L)
 within-parts n L X Y p e =

@@ -8,7 +8,7 @@ use lib.Dec.{eqb}
 use borrow.Author.Tests.{eqb-true, eq-eqb}
 use Rattle.agreement.specs.Sets.{Set, Part, either, only}
 use Rattle.agreement.specs.Families.{Families, DownwardClosed}
-use Rattle.agreement.proofs.Tests.{true-or-false, clash}
+use Rattle.agreement.proofs.Tests.{true-or-false, clash, or-left, or-right, or-rest}
 use Rattle.faults.specs.declared.rule.Sense.{Sense}
 use Rattle.faults.specs.Senses.{family}
 use Rattle.survey.specs.Largest.{Largest, Maximal}
@@ -17,11 +17,8 @@ use Rattle.survey.specs.Largest.{Largest, Maximal}
 grown : (n : ℕ) (X Y : Set) (i : ℕ) → Part n X Y → Y i ≡ true → Part n (either X (only i)) Y
 grown n X Y i p y j h e = elim (true-or-false (X j)) [
   | inl t ↦ p j h t
-  | inr t ↦ subst (λ k. Y k ≡ true) (sym (eqb-true j i (right (X j) (eqb j i) t e))) y
+  | inr t ↦ subst (λ k. Y k ≡ true) (sym (eqb-true j i (or-rest (X j) (eqb j i) t e))) y
 ]
-  where
-    right : (a b : Bool) → a ≡ false → (a || b) ≡ true → b ≡ true
-    right a b p q = grind arith
 
 pub maximal-largest : (f : Families) (s : Sense) → DownwardClosed (f .n) (family f s) → (X : Set) → Maximal f s X → Largest f s X
 maximal-largest f s parts X m = (
@@ -40,10 +37,3 @@ largest-maximal f s X l = (
     | inl t ↦ absurd (clash (l .1 (either X (only i)) t (λ j k. or-left (X j) (eqb j i)) i h (or-right (X i) (eqb i i) (eq-eqb i i refl))) e)
   ],
 )
-  where
-    or-left : (a b : Bool) → a ≡ true → (a || b) ≡ true
-    or-left a b p = rw p refl
-
-    or-right : (a b : Bool) → b ≡ true → (a || b) ≡ true
-    or-right true b p = refl
-    or-right false b p = p
