@@ -4,6 +4,8 @@
 //! `specs/` has the definitions. A function here has no work to do: its contract is a theorem, and the check asks for
 //! the proof.
 
+#![tactic(auto)]
+
 ghost use Rattle.agreement.specs.Families.{QuorumsMeet, QuorumBlocks, BlockingReachesOut, QuorumReachesOut};
 ghost use Rattle.agreement.specs.Families.{ComplementSuffices, OneBlocks, UpwardClosed, ClosedIgnores};
 ghost use Rattle.agreement.specs.Sets.{NumbersAreSets, SetsAreNumbers};

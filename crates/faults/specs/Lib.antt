@@ -3,3 +3,5 @@ pub mod Faults
 pub mod Rules
 pub mod Lists
 pub mod Made
+pub mod WithinLemmas
+pub mod RuleLaws

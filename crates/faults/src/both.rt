@@ -4,6 +4,7 @@ ghost use Rattle.faults.specs.Rules.{both_of};
 ghost use Rattle.std.specs.Prelude.{false, nat_lt};
 ghost use Rattle.agreement.specs.Sets.{below};
 ghost use Rattle.agreement.proofs.Tests.{and_right, and_both, and_left};
+ghost use Rattle.faults.specs.RuleLaws.{both_parts};
 ghost use Rattle.std.proofs.Common.{rules};
 
 use crate::rule::FaultRule;
@@ -23,9 +24,15 @@ impl<P: FaultRule, Q: FaultRule> FaultRule for Both<P, Q> {
 
     ghost size_to_10 = { Prim.search rules };
 
-    ghost wide_parts = { Prim.search rules };
+    ghost wide_parts = { λ b.
+        let f = P.FaultRule.families b.first in
+        let g = Q.FaultRule.families b.second in
+        both_parts f.n g.n f.wide g.wide (P.FaultRule.wide_parts b.first) (Q.FaultRule.wide_parts b.second) };
 
-    ghost narrow_parts = { Prim.search rules };
+    ghost narrow_parts = { λ b.
+        let f = P.FaultRule.families b.first in
+        let g = Q.FaultRule.families b.second in
+        both_parts f.n g.n f.narrow g.narrow (P.FaultRule.narrow_parts b.first) (Q.FaultRule.narrow_parts b.second) };
 
     ghost wide_ignores = { Prim.search rules };
 

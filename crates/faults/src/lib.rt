@@ -1,5 +1,7 @@
 //! Fault rules: which sets of guests the own stations tolerate.
 
+#![tactic(auto)]
+
 pub mod both;
 pub mod fault;
 pub mod listed;

@@ -4,7 +4,8 @@ ghost use Rattle.std.specs.Prelude.{◌≡◌, ◌<◌, ◌≤◌, length};
 ghost use Rattle.stations.specs.Members.{members};
 ghost use Rattle.faults.specs.Rules.{listed, within};
 ghost use Rattle.faults.specs.Lists.{Nested, Apart, Around};
-ghost use Rattle.std.proofs.Common.{rules, arith};
+ghost use Rattle.agreement.proofs.Quorums.{closed_ignores};
+ghost use Rattle.faults.specs.RuleLaws.{listed_laws};
 
 use crate::rule::FaultRule;
 use stations::StationSet;
@@ -46,23 +47,23 @@ fn lies_within(x: StationSet, list: &[StationSet], n: u8) -> bool
 impl FaultRule for Listed {
     ghost families = { λ t. listed t.n t.wide.items t.narrow.items };
 
-    ghost size_from_1 = { first_of (Prim.search rules, Prim.grind (arith, Self.row.coded.inj)) };
+    ghost size_from_1 = { λ t. t.low };
 
-    ghost size_to_10 = { first_of (Prim.search rules, Prim.grind (arith, Self.row.coded.inj)) };
+    ghost size_to_10 = { λ t. t.high };
 
-    ghost wide_parts = { first_of (Prim.search rules, Prim.grind (arith, Self.row.coded.inj)) };
+    ghost wide_parts = { λ t. (listed_laws t.n t.wide.items t.narrow.items t.some t.nested t.apart).wide_parts };
 
-    ghost narrow_parts = { first_of (Prim.search rules, Prim.grind (arith, Self.row.coded.inj)) };
+    ghost narrow_parts = { λ t. (listed_laws t.n t.wide.items t.narrow.items t.some t.nested t.apart).narrow_parts };
 
-    ghost wide_ignores = { first_of (Prim.search rules, Prim.grind (arith, Self.row.coded.inj)) };
+    ghost wide_ignores = { λ t. closed_ignores t.n (listed t.n t.wide.items t.narrow.items).wide (listed_laws t.n t.wide.items t.narrow.items t.some t.nested t.apart).wide_parts };
 
-    ghost narrow_ignores = { first_of (Prim.search rules, Prim.grind (arith, Self.row.coded.inj)) };
+    ghost narrow_ignores = { λ t. closed_ignores t.n (listed t.n t.wide.items t.narrow.items).narrow (listed_laws t.n t.wide.items t.narrow.items t.some t.nested t.apart).narrow_parts };
 
-    ghost narrow_is_wide = { first_of (Prim.search rules, Prim.grind (arith, Self.row.coded.inj)) };
+    ghost narrow_is_wide = { λ t. (listed_laws t.n t.wide.items t.narrow.items t.some t.nested t.apart).narrow_is_wide };
 
-    ghost empty_is_narrow = { first_of (Prim.search rules, Prim.grind (arith, Self.row.coded.inj)) };
+    ghost empty_is_narrow = { λ t. (listed_laws t.n t.wide.items t.narrow.items t.some t.nested t.apart).empty_is_narrow };
 
-    ghost no_cover = { first_of (Prim.search rules, Prim.grind (arith, Self.row.coded.inj)) };
+    ghost no_cover = { λ t. (listed_laws t.n t.wide.items t.narrow.items t.some t.nested t.apart).no_cover };
 
     fn size(&self) -> u8 {
         self.n

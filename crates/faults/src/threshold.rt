@@ -2,7 +2,8 @@
 
 ghost use Rattle.std.specs.Prelude.{◌+◌, ◌*◌, ◌<◌, ◌≤◌};
 ghost use Rattle.faults.specs.Rules.{threshold};
-ghost use Rattle.std.proofs.Common.{rules, arith};
+ghost use Rattle.agreement.proofs.Quorums.{closed_ignores};
+ghost use Rattle.faults.specs.RuleLaws.{threshold_laws};
 
 use crate::rule::FaultRule;
 use stations::StationSet;
@@ -24,23 +25,23 @@ pub struct Threshold {
 impl FaultRule for Threshold {
     ghost families = { λ t. threshold t.n t.s t.a };
 
-    ghost size_from_1 = { first_of (Prim.search rules, Prim.grind (arith, Self.row.coded.inj)) };
+    ghost size_from_1 = { λ t. t.low };
 
-    ghost size_to_10 = { first_of (Prim.search rules, Prim.grind (arith, Self.row.coded.inj)) };
+    ghost size_to_10 = { λ t. t.high };
 
-    ghost wide_parts = { first_of (Prim.search rules, Prim.grind (arith, Self.row.coded.inj)) };
+    ghost wide_parts = { λ t. (threshold_laws t.n t.s t.a t.nested t.apart).wide_parts };
 
-    ghost narrow_parts = { first_of (Prim.search rules, Prim.grind (arith, Self.row.coded.inj)) };
+    ghost narrow_parts = { λ t. (threshold_laws t.n t.s t.a t.nested t.apart).narrow_parts };
 
-    ghost wide_ignores = { first_of (Prim.search rules, Prim.grind (arith, Self.row.coded.inj)) };
+    ghost wide_ignores = { λ t. closed_ignores t.n (threshold t.n t.s t.a).wide (threshold_laws t.n t.s t.a t.nested t.apart).wide_parts };
 
-    ghost narrow_ignores = { first_of (Prim.search rules, Prim.grind (arith, Self.row.coded.inj)) };
+    ghost narrow_ignores = { λ t. closed_ignores t.n (threshold t.n t.s t.a).narrow (threshold_laws t.n t.s t.a t.nested t.apart).narrow_parts };
 
-    ghost narrow_is_wide = { first_of (Prim.search rules, Prim.grind (arith, Self.row.coded.inj)) };
+    ghost narrow_is_wide = { λ t. (threshold_laws t.n t.s t.a t.nested t.apart).narrow_is_wide };
 
-    ghost empty_is_narrow = { first_of (Prim.search rules, Prim.grind (arith, Self.row.coded.inj)) };
+    ghost empty_is_narrow = { λ t. (threshold_laws t.n t.s t.a t.nested t.apart).empty_is_narrow };
 
-    ghost no_cover = { first_of (Prim.search rules, Prim.grind (arith, Self.row.coded.inj)) };
+    ghost no_cover = { λ t. (threshold_laws t.n t.s t.a t.nested t.apart).no_cover };
 
     fn size(&self) -> u8 {
         self.n

@@ -1,6 +1,6 @@
 use Rattle.std.specs.Prelude.{vec_items}
 use Rattle.agreement.specs.Families.{Laws}
-use Rattle.faults.proofs.Laws.{threshold_laws, listed_laws}
+use Rattle.faults.specs.RuleLaws.{threshold_laws, listed_laws}
 use Rattle.rulebody.specs.declared.rule.Rule.{Rule}
 use Rattle.rulebody.specs.declared.rule.Rule.TheVariants.{Threshold, Listed}
 use Rattle.rulebody.specs.Kinds.{meant}

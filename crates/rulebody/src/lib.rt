@@ -1,5 +1,7 @@
 //! Rules as bytes.
 
+#![tactic(auto)]
+
 pub mod body;
 pub mod making;
 pub mod reading;

@@ -1,5 +1,7 @@
 //! Sets of stations.
 
+#![tactic(auto)]
+
 ghost use Rattle.std.specs.Prelude.{◌≡◌, ◌-◌, ◌^◌, ◌<◌, min, ltb, ◌++◌, if◌then◌else◌, Some, codes, nat_le, nat_lt};
 ghost use Rattle.agreement.specs.Sets.{up_to, both, below, outside, without, either, only, inside, every, covers, tally};
 ghost use Rattle.stations.specs.Members.{members};

@@ -1,5 +1,7 @@
 //! The largest sets of guests that a fault rule tolerates.
 
+#![tactic(auto)]
+
 ghost use Rattle.std.specs.Prelude.{◌≡◌, ◌^◌, true, false, IfOk, OnOk};
 ghost use Rattle.stations.specs.Members.{members};
 ghost use Rattle.survey.specs.Largest.{CanGrow, CannotGrow, Maximal, Gathered, AllLargest};

@@ -1,5 +1,7 @@
 //! Says which guests a fault rule tolerates: reads a rule body on standard input.
 
+#![tactic(auto)]
+
 use faults::fault::{Fault, Three};
 use faults::rule::{FaultRule, Sense};
 use rulebody::body::RuleBody;

@@ -4,7 +4,7 @@ use Rattle.stations.specs.declared.StationSet.{StationSet}
 use Rattle.stations.specs.Members.{members}
 use Rattle.faults.specs.Rules.{within}
 use Rattle.faults.specs.Lists.{Around}
-use Rattle.faults.proofs.Within.{within_at, within_none}
+use Rattle.faults.specs.WithinLemmas.{within_at, within_none}
 use Rattle.faults.proofs.listed.lies_within.Goals as goal
 
 -- some listed set is around X, or none is

@@ -7,7 +7,7 @@ use Rattle.agreement.proofs.Tests.{and_right}
 use Rattle.stations.specs.Members.{members}
 use Rattle.stations.specs.Text.{comma, listed}
 use Rattle.stations.proofs.StationSetDisplay.fmt.Goals as goal
-use Rattle.stations.proofs.StationSetDisplay.fmt.Goals.{then-has+in-ok-write-2, else_has}
+use Rattle.stations.proofs.StationSetDisplay.fmt.Goals.{then-has+in_ok-write-2, else-has}
 
 -- a text that is not empty is followed by a comma
 comma_after : (xs : List ℕ) → 0 < length xs → comma xs ≡ codes ","
@@ -45,19 +45,19 @@ loop-station-preserved g c =
     let inv = c.loop-station.invariant in
     let small : n < 16 = c.loop-station-test.true in
     elim c.if-has.branch [
-      | then-has+in-ok-write-2 w ↦
+      | then-has+in_ok-write-2 w ↦
           let x : X n ≡ true = and_right (ltb n 16) (X n) (sym c.has.ensures ∙ w.if-has.true) in (
             search rules,
             ap (λ (r : Bor (List ℕ)). r.now) w.comma-is ∙ sym (comma_next n X small x),
             λ p.
                 let before = inv.2 p in
-                let now = w.in-ok-write-2.ensures.shows before.plain refl in
+                let now = w.in_ok-write-2.ensures.writes before.plain refl in
                 has_written_to_eq took c.write.new.self (listed (n + 1) X) w.write-then-has.new.self c.if-has.f w.f-is
                 (has_written_of_eq took c.write.new.self (listed n X ++ (c.loop-station.comma.now ++ decimal n)) (listed (n + 1) X) w.write-then-has.new.self
                 (ap (λ (t : List ℕ). listed n X ++ (t ++ decimal n)) inv.1 ∙ sym (with_station n X x))
                 (has_written_append took c.write.new.self (listed n X) c.loop-station.f (c.loop-station.comma.now ++ decimal n) w.write-then-has.new.self before now)),
           )
-      | else_has w ↦
+      | else-has w ↦
           let x : X n ≡ false = absent n (X n) small (sym c.has.ensures ∙ w.if-has.false) in
           let e : listed (n + 1) X ≡ listed n X = without_station n X x in (
             search rules,
@@ -73,7 +73,7 @@ returns-clause-writes g c = λ p e.
     let X = members c.args.self.now in
     let n = c.loop-station.station-counter in
     let end : n ≡ 16 = omega (arith, c.loop-station-test.false, c.loop-station.auto.station-counter-end) in
-    let start = c.in-ok-write.ensures.shows p refl in
+    let start = c.in_ok-write.ensures.writes p refl in
     let middle = c.loop-station.invariant.2 start.plain in
     let rest = c.write-2.ensures.writes middle.plain e in
     has_written_of_eq took c.args.f.now (codes "{" ++ (listed n X ++ codes "}")) (codes "{" ++ (listed 16 X ++ codes "}")) c.write-2.new.self

@@ -1,14 +1,14 @@
--- Threshold and listed families keep the four laws.
-use Rattle.std.proofs.Common.{ℕ, ◌+◌, ◌*◌, ◌<◌, ◌≤◌, false, leb, List, length, refl, arith, lt-ltb, le-leb, leb-true}
-use Rattle.agreement.specs.Sets.{tally}
-use Rattle.agreement.specs.Families.{DownwardClosed, Laws}
-use Rattle.agreement.proofs.Tests.{clash, and_both}
+-- Proved: threshold and listed families keep the four laws, and what both of two rules tolerate keeps law 1.
+use Rattle.std.proofs.Common.{◌≡◌, ℕ, ◌+◌, ◌*◌, ◌<◌, ◌≤◌, Bool, true, false, ◌&&◌, leb, ltb, List, length, refl, arith, lt-ltb, ltb-true, le-leb, leb-true}
+use Rattle.agreement.specs.Sets.{below, tally}
+use Rattle.agreement.specs.Families.{Family, DownwardClosed, Laws}
+use Rattle.agreement.proofs.Tests.{clash, and_left, and_right, and_both}
 use Rattle.agreement.proofs.Sets.{tally_part, tally_cover, tally_empty, inside_part, part_inside}
 use Rattle.stations.specs.declared.StationSet.{StationSet}
 use Rattle.stations.specs.Members.{members}
 use Rattle.faults.specs.Rules.{threshold, listed}
 use Rattle.faults.specs.Lists.{at, Nested, Apart}
-use Rattle.faults.proofs.Within.{within_at, within_some, within_parts, cover_larger}
+use Rattle.faults.specs.WithinLemmas.{within_at, within_some, within_parts, cover_larger}
 
 at_most_parts : (n m : ℕ) → DownwardClosed n (λ X. leb (tally n X) m)
 at_most_parts n m X Y p h = le-leb (tally n X) m (omega (arith, tally_part n X Y p, leb-true (tally n Y) m h))
@@ -43,3 +43,13 @@ listed_laws n W N some nested apart = record {
       (apart (i.0, j.0, k.0)
       (and_both (lt-ltb i.0 (length N) i.1) (and_both (lt-ltb j.0 (length W) j.1) (lt-ltb k.0 (length W) k.1))));
 }
+
+-- what a family and another, which sees the stations below n alone, both tolerate
+pub both_parts : (n m : ℕ) (F G : Family) → DownwardClosed n F → DownwardClosed m G → DownwardClosed n (λ X. F X && G (below n X))
+both_parts n m F G f g X Y p h =
+    and_both (f X Y p (and_left (F Y) (G (below n Y)) h))
+    (g (below n X) (below n Y) (λ j _ e. narrowed j (ltb j n) refl e) (and_right (F Y) (G (below n Y)) h))
+  where
+    narrowed : (j : ℕ) (b : Bool) → ltb j n ≡ b → (b && X j) ≡ true → (b && Y j) ≡ true
+    narrowed j true e h = p j (ltb-true j n e) h
+    narrowed j false e h = absurd (clash h refl)
