@@ -36,7 +36,7 @@ impl FaultRule for Rule {
 
     ghost empty_is_narrow = { λ r. (laws r).empty_is_narrow };
 
-    ghost no_cover = { λ r. (laws r).no-cover };
+    ghost no_cover = { λ r. (laws r).no_cover };
 
     fn size(&self) -> u8 {
         match self {

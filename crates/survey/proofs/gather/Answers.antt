@@ -15,27 +15,27 @@ parts : (f : Families) (s : Sense) → DownwardClosed f.n f.wide → DownwardClo
 parts f Wide w n = w
 parts f Narrow w n = n
 
-pub returns-in-ok-push : goal.returns-in-ok-push
-returns-in-ok-push g c = λ l.
+pub returns-in_ok-push : goal.returns-in_ok-push
+returns-in_ok-push g c = λ l.
     let rule = c.args.rule.now in
     let f = g.F.FaultRule.families rule in
     let s = c.args.sense in
     let P : ℕ → Type 0 = λ x. Largest f s (holds x) in
     let L = vec_items c.args.found.now in
-    let x = c.from-bits-x.result in
+    let x = c.from_bits-x.result in
     let p = parts f s (g.met.F.FaultRule.wide_parts rule) (g.met.F.FaultRule.narrow_parts rule) in
-    let e : x.bits ≡ c.args.bits = c.from-bits-x.ensures in
-    let m = maximal_largest f s p (holds x.bits) (c.is_largest.ensures.yes c.if-is-largest.true) in
+    let e : x.bits ≡ c.args.bits = c.from_bits-x.ensures in
+    let m = maximal_largest f s p (holds x.bits) (c.is_largest.ensures.yes c.if-is_largest.true) in
     let pushed : vec_items c.push.new.self ≡ L ++ x ∷ [] = search rules in
     subst (λ (K : List StationSet). Lists (c.args.bits + 1) P K) (sym pushed)
     (lists_push c.args.bits P L x l e (subst P e m))
 
-pub returns-else-is-largest : goal.returns-else-is-largest
-returns-else-is-largest g c = λ l.
+pub returns-else-is_largest : goal.returns-else-is_largest
+returns-else-is_largest g c = λ l.
     let f = g.F.FaultRule.families c.args.rule.now in
     let s = c.args.sense in
     let P : ℕ → Type 0 = λ x. Largest f s (holds x) in
-    let e : c.from-bits-x.result.bits ≡ c.args.bits = c.from-bits-x.ensures in
+    let e : c.from_bits-x.result.bits ≡ c.args.bits = c.from_bits-x.ensures in
     lists_skip c.args.bits P (vec_items c.args.found.now) l
-    (λ m. c.is_largest.ensures.none c.if-is-largest.false
-    (largest_maximal f s (holds c.from-bits-x.result.bits) (subst P (sym e) m)))
+    (λ m. c.is_largest.ensures.none c.if-is_largest.false
+    (largest_maximal f s (holds c.from_bits-x.result.bits) (subst P (sym e) m)))
