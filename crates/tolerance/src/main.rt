@@ -7,9 +7,7 @@ use faults::rule::{FaultRule, Sense};
 use rulebody::body::RuleBody;
 use rulebody::rule::Rule;
 use stations::StationSet;
-use std::alloc::Global;
-use std::fmt;
-use std::fmt::Write;
+use std::alloc::{AllocError, Global};
 use std::io::Read;
 use survey::largest_sets;
 
@@ -52,7 +50,7 @@ fn tell_rule(text: &mut String, heap: Global, body: &RuleBody) -> anyhow::Result
     }
 }
 
-fn tell_body(text: &mut String, body: &RuleBody) -> fmt::Result {
+fn tell_body(text: &mut String, body: &RuleBody) -> Result<(), AllocError> {
     match body {
         RuleBody::Threshold { n, s, a } => {
             writeln!(text, "Threshold rule; stations: {n}")?;
@@ -67,7 +65,7 @@ fn tell_body(text: &mut String, body: &RuleBody) -> fmt::Result {
     }
 }
 
-fn tell_list(text: &mut String, sense: &str, sets: &[StationSet]) -> fmt::Result {
+fn tell_list(text: &mut String, sense: &str, sets: &[StationSet]) -> Result<(), AllocError> {
     write!(text, "  {sense} guests: any part of one of")?;
     if sets.is_empty() {
         write!(text, " no sets")?;
@@ -104,7 +102,7 @@ fn tell_largest(text: &mut String, heap: Global, rule: &Rule, sense: Sense) -> a
     Ok(())
 }
 
-fn tell_refusal(text: &mut String, fault: Fault) -> fmt::Result {
+fn tell_refusal(text: &mut String, fault: Fault) -> Result<(), AllocError> {
     let number = fault.number();
     let why = match fault {
         Fault::Size => "a rule has 1 to 10 stations",
@@ -121,7 +119,7 @@ fn tell_refusal(text: &mut String, fault: Fault) -> fmt::Result {
 }
 
 // The three sets that hold every station, by place and by what is in them.
-fn tell_three(text: &mut String, body: &RuleBody, three: Three) -> fmt::Result {
+fn tell_three(text: &mut String, body: &RuleBody, three: Three) -> Result<(), AllocError> {
     if let RuleBody::Listed { wide, narrow, .. } = body {
         tell_at(text, "narrow", narrow.as_slice(), three.narrow)?;
         tell_at(text, "wide", wide.as_slice(), three.wide.0)?;
@@ -130,7 +128,12 @@ fn tell_three(text: &mut String, body: &RuleBody, three: Three) -> fmt::Result {
     Ok(())
 }
 
-fn tell_at(text: &mut String, list: &str, sets: &[StationSet], place: usize) -> fmt::Result {
+fn tell_at(
+    text: &mut String,
+    list: &str,
+    sets: &[StationSet],
+    place: usize,
+) -> Result<(), AllocError> {
     match sets.get(place) {
         Some(set) => writeln!(text, "  {list} list, place {place}: {set}"),
         None => Ok(()),
