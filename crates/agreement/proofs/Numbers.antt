@@ -3,7 +3,7 @@ use Rattle.std.proofs.Common.{◌≡◌, ℕ, zero, suc, ◌+◌, ◌-◌, ◌*�
 use lib.Bits.{bit_and, bit_or, and_step, or_step}
 use lib.Count.{ones, ones_in, ones_cat}
 use lib.Pow.{mod-pow-add}
-use Rattle.agreement.specs.Sets.{Set, holds, number, tally, below, NumbersAreSets, SetsAreNumbers}
+use Rattle.agreement.specs.Sets.{Set, holds, number, tally, NumbersAreSets, SetsAreNumbers}
 
 -- station j is in x where x, shifted down by j, is odd
 pub shifted : (x j : ℕ) → holds x j ≡ eqb (x / 2 ^ j % 2) 1

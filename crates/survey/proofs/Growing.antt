@@ -1,5 +1,5 @@
 -- In a family that has every part of its sets, what cannot grow by one station is largest.
-use Rattle.std.proofs.Common.{◌≡◌, ℕ, Bool, true, false, ◌||◌, eqb, sym, refl, subst, inl, inr, arith, eq-eqb, eqb-true}
+use Rattle.std.proofs.Common.{◌≡◌, ℕ, true, eqb, sym, refl, subst, inl, inr, eq-eqb, eqb-true}
 use Rattle.agreement.specs.Sets.{Set, Part, either, only}
 use Rattle.agreement.specs.Families.{Families, DownwardClosed}
 use Rattle.agreement.proofs.Tests.{true_or_false, clash, or_left, or_right, or_rest}
