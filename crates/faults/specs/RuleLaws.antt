@@ -44,7 +44,7 @@ listed_laws n W N some nested apart = record {
       (and_both (lt-ltb i.0 (length N) i.1) (and_both (lt-ltb j.0 (length W) j.1) (lt-ltb k.0 (length W) k.1))));
 }
 
--- what a family and another, which sees the stations below n alone, both tolerate
+-- what a family and another, which is shown the stations below n alone, both tolerate
 pub both_parts : (n m : ℕ) (F G : Family) → DownwardClosed n F → DownwardClosed m G → DownwardClosed n (λ X. F X && G (below n X))
 both_parts n m F G f g X Y p h =
     and_both (f X Y p (and_left (F Y) (G (below n Y)) h))

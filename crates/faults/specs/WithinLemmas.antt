@@ -1,4 +1,4 @@
--- What lies inside a listed set.
+-- Proved: what lies inside a listed set.
 use Rattle.std.proofs.Common.{◌≡◌, ℕ, zero, suc, ◌<◌, Bool, true, false, ◌||◌, List, [], ◌∷◌, length, refl, inl, inr, arith}
 use Rattle.agreement.specs.Sets.{Set, Cover, either, inside, covers}
 use Rattle.agreement.specs.Families.{DownwardClosed}

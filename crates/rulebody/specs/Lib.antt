@@ -2,4 +2,4 @@ pub mod Format
 pub mod Bodies
 pub mod Kinds
 pub mod Making
-pub mod EitherRuleLemmas
+pub mod KindLaws

@@ -2,7 +2,7 @@
 
 ghost use Rattle.rulebody.specs.Kinds.{meant};
 ghost use Rattle.rulebody.specs.declared.rule.Rule.TheVariants.{Threshold, Listed};
-ghost use Rattle.rulebody.specs.EitherRuleLemmas.{laws};
+ghost use Rattle.rulebody.specs.KindLaws.{laws};
 ghost use Rattle.agreement.proofs.Quorums.{closed_ignores};
 
 use faults::listed::Listed;

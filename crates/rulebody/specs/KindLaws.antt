@@ -1,3 +1,4 @@
+-- Proved: a rule of either kind keeps the four laws.
 use Rattle.std.specs.Prelude.{vec_items}
 use Rattle.agreement.specs.Families.{Laws}
 use Rattle.faults.specs.RuleLaws.{threshold_laws, listed_laws}
