@@ -1,5 +1,5 @@
 -- Proved: threshold and listed families keep the four laws, and what both of two rules tolerate keeps law 1.
-use Rattle.std.proofs.Common.{◌≡◌, ℕ, ◌+◌, ◌*◌, ◌<◌, ◌≤◌, Bool, true, false, ◌&&◌, leb, ltb, List, length, refl, arith, lt-ltb, ltb-true, le-leb, leb-true}
+use Rattle.std.proofs.Common.{◌≡◌, ℕ, ◌+◌, ◌*◌, ◌<◌, ◌≤◌, Bool, true, false, ◌&&◌, nat_le, nat_lt, List, length, refl, arith, lt-ltb, ltb-true, le-leb, leb-true}
 use Rattle.agreement.specs.Sets.{below, tally}
 use Rattle.agreement.specs.Families.{Family, DownwardClosed, Laws}
 use Rattle.agreement.proofs.Tests.{clash, and_left, and_right, and_both}
@@ -10,7 +10,7 @@ use Rattle.faults.specs.Rules.{threshold, listed}
 use Rattle.faults.specs.Lists.{at, Nested, Apart}
 use Rattle.faults.specs.WithinLemmas.{within_at, within_some, within_parts, cover_larger}
 
-at_most_parts : (n m : ℕ) → DownwardClosed n (λ X. leb (tally n X) m)
+at_most_parts : (n m : ℕ) → DownwardClosed n (λ X. nat_le (tally n X) m)
 at_most_parts n m X Y p h = le-leb (tally n X) m (omega (arith, tally_part n X Y p, leb-true (tally n Y) m h))
 
 pub threshold_laws : (n s a : ℕ) → a ≤ s → a + 2 * s < n → Laws (threshold n s a)
@@ -48,8 +48,8 @@ listed_laws n W N some nested apart = record {
 pub both_parts : (n m : ℕ) (F G : Family) → DownwardClosed n F → DownwardClosed m G → DownwardClosed n (λ X. F X && G (below n X))
 both_parts n m F G f g X Y p h =
     and_both (f X Y p (and_left (F Y) (G (below n Y)) h))
-    (g (below n X) (below n Y) (λ j _ e. narrowed j (ltb j n) refl e) (and_right (F Y) (G (below n Y)) h))
+    (g (below n X) (below n Y) (λ j _ e. narrowed j (nat_lt j n) refl e) (and_right (F Y) (G (below n Y)) h))
   where
-    narrowed : (j : ℕ) (b : Bool) → ltb j n ≡ b → (b && X j) ≡ true → (b && Y j) ≡ true
+    narrowed : (j : ℕ) (b : Bool) → nat_lt j n ≡ b → (b && X j) ≡ true → (b && Y j) ≡ true
     narrowed j true e h = p j (ltb-true j n e) h
     narrowed j false e h = absurd (clash h refl)

@@ -2,7 +2,7 @@
 
 #![tactic(auto)]
 
-ghost use Rattle.std.specs.Prelude.{◌≡◌, ◌-◌, ◌^◌, ◌<◌, min, ltb, ◌++◌, if◌then◌else◌, Some, codes, nat_le, nat_lt};
+ghost use Rattle.std.specs.Prelude.{◌≡◌, ◌-◌, ◌^◌, ◌<◌, min, ◌++◌, if◌then◌else◌, Some, codes, nat_le, nat_lt};
 ghost use Rattle.agreement.specs.Sets.{up_to, both, below, outside, without, either, only, inside, every, covers, tally};
 ghost use Rattle.stations.specs.Members.{members};
 ghost use Rattle.stations.specs.Text.{listed};
@@ -39,7 +39,7 @@ impl StationSet {
 
     /// The set with one station more; a station from 16 on adds nothing.
     pub fn with(self, station: u8) -> StationSet
-        ensures { members result ≡ (if ltb station 16 then either (members self) (only station) else members self) }
+        ensures { members result ≡ (if nat_lt station 16 then either (members self) (only station) else members self) }
     {
         if station < 16 {
             self.union(StationSet::single(station))
