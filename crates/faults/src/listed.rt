@@ -55,9 +55,13 @@ impl FaultRule for Listed {
 
     ghost narrow_parts = { λ t. (listed_laws t.n t.wide.items t.narrow.items t.some t.nested t.apart).narrow_parts };
 
-    ghost wide_ignores = { λ t. closed_ignores t.n (listed t.n t.wide.items t.narrow.items).wide (listed_laws t.n t.wide.items t.narrow.items t.some t.nested t.apart).wide_parts };
+    ghost wide_ignores = { λ t.
+        let laws = listed_laws t.n t.wide.items t.narrow.items t.some t.nested t.apart in
+        closed_ignores t.n (listed t.n t.wide.items t.narrow.items).wide laws.wide_parts };
 
-    ghost narrow_ignores = { λ t. closed_ignores t.n (listed t.n t.wide.items t.narrow.items).narrow (listed_laws t.n t.wide.items t.narrow.items t.some t.nested t.apart).narrow_parts };
+    ghost narrow_ignores = { λ t.
+        let laws = listed_laws t.n t.wide.items t.narrow.items t.some t.nested t.apart in
+        closed_ignores t.n (listed t.n t.wide.items t.narrow.items).narrow laws.narrow_parts };
 
     ghost narrow_is_wide = { λ t. (listed_laws t.n t.wide.items t.narrow.items t.some t.nested t.apart).narrow_is_wide };
 
