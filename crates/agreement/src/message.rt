@@ -6,6 +6,7 @@
 pub struct Message {
     pub sender: u8,
     pub addressee: u8,
+    // A number and no enum: a guest may send any byte as a kind, and it travels as it was sent.
     pub kind: u8,
     pub stage: u8,
     pub value: u8,

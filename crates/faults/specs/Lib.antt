@@ -1,3 +1,4 @@
+pub mod Sizes
 pub mod Senses
 pub mod Faults
 pub mod Rules

@@ -1,40 +1,34 @@
 -- What two lists of sets must be to make a rule.
-use Rattle.std.specs.Prelude.{◌≡◌, ℕ, ◌^◌, ◌<◌, ◌≤◌, Bool, true, false, ◌&&◌, List, length, Some, None, Option, nat_lt, slice_index_or}
-use Rattle.agreement.specs.Sets.{Set, inside, covers}
+use Rattle.std.specs.Prelude.{◌≡◌, ℕ, ◌^◌, ◌<◌, ◌≤◌, Bool, true, false, List, length, Some, None, Option, All, IsTrue, slice_index}
+use Rattle.agreement.specs.Sets.{covers}
 use Rattle.stations.specs.declared.StationSet.{StationSet}
 use Rattle.faults.specs.declared.fault.Three.{Three}
 use Rattle.stations.specs.Members.{members}
 use Rattle.faults.specs.Rules.{within}
 
--- A rule has one to ten stations.
-abbrev pub Sized : ℕ → Type 0
-Sized n = (1 ≤ n) × (n ≤ 10)
-
 -- The set at a place of a list.
 abbrev pub at : List StationSet → ℕ → StationSet
-at L i = slice_index_or L i (record { bits = 0 })
+at L i = slice_index L i
 
 -- No set has a station from n on: each number is below 2 ^ n.
 abbrev pub AllBelow : ℕ → List StationSet → Type 0
-AllBelow n L = (i : ℕ) → i < length L → (at L i).bits < 2 ^ n
+AllBelow n L = All (λ x. x < 2 ^ n) L
 
 -- One to eight sets of stations below n.
 abbrev pub Proper : ℕ → List StationSet → Type 0
 Proper n L = (1 ≤ length L) × (length L ≤ 8) × AllBelow n L
 
 -- Each narrow set lies inside a wide one.
-abbrev pub Nested : ℕ → List StationSet → List StationSet → Type 0
-Nested n N W = (i : ℕ) → i < length N → within n W (members (at N i)) ≡ true
+pub record Nested (n : ℕ) (N W : List StationSet) : Type 0 where
+  pub each : All (λ x. IsTrue (within n W (members x))) N
 
 -- The narrow set at i and the wide sets at j and k together hold every station.
 abbrev pub covered : ℕ → List StationSet → List StationSet → ℕ → ℕ → ℕ → Bool
 covered n N W i j k = covers n (members (at N i)) (members (at W j)) (members (at W k))
 
--- No narrow and two wide sets hold every station; the three places stand in one tuple.
-abbrev pub Apart : ℕ → List StationSet → List StationSet → Type 0
-Apart n N W =
-    (t : ℕ × ℕ × ℕ) → (nat_lt t.0 (length N) && (nat_lt t.1 (length W) && nat_lt t.2 (length W))) ≡ true
-    → covered n N W t.0 t.1 t.2 ≡ false
+-- No narrow and two wide sets hold every station.
+pub record Apart (n : ℕ) (N W : List StationSet) : Type 0 where
+  pub none : (i j k : ℕ) → i < length N → j < length W → k < length W → covered n N W i j k ≡ false
 
 -- The first triple of places, in the order narrow, first wide, second wide, whose sets hold every station.
 pub record FirstThree (n : ℕ) (N W : List StationSet) (t : Three) : Type 0 where
@@ -45,11 +39,6 @@ pub record FirstThree (n : ℕ) (N W : List StationSet) (t : Three) : Type 0 whe
   pub no_narrow_before : (i j k : ℕ) → i < t.narrow → j < length W → k < length W → covered n N W i j k ≡ false
   pub no_first_before : (j k : ℕ) → j < t.wide.0 → k < length W → covered n N W t.narrow j k ≡ false
   pub no_second_before : (k : ℕ) → k < t.wide.1 → covered n N W t.narrow t.wide.0 k ≡ false
-
--- A place whose set is around X, or none where there is no such set.
-abbrev pub Around : ℕ → Set → List StationSet → Option ℕ → Type 0
-Around n X L None = (k : ℕ) → k < length L → inside n X (members (at L k)) ≡ false
-Around n X L (Some i) = (i < length L) × (inside n X (members (at L i)) ≡ true)
 
 -- The first triple of places whose sets hold every station, or none where no triple is so.
 abbrev pub CoverFound : ℕ → List StationSet → List StationSet → Option Three → Type 0

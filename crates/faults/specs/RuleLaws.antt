@@ -1,12 +1,13 @@
--- Proved: threshold and listed families keep the four laws, and what both of two rules tolerate keeps law 1.
-use Rattle.std.proofs.Common.{◌≡◌, ℕ, ◌+◌, ◌*◌, ◌<◌, ◌≤◌, Bool, true, false, ◌&&◌, nat_le, nat_lt, List, length, refl, arith, lt-ltb, ltb-true, le-leb, leb-true}
-use Rattle.agreement.specs.Sets.{below, tally}
-use Rattle.agreement.specs.Families.{Family, DownwardClosed, Laws}
+-- Proved: threshold and listed families keep the four laws, and so does what both of two rules tolerate.
+use Rattle.std.proofs.Common.{◌≡◌, ℕ, min, ap, ◌∙◌, ◌+◌, ◌*◌, ◌<◌, ◌≤◌, Bool, true, false, ◌&&◌, nat_le, nat_lt, List, length, refl, arith, ltb-true, le-leb, leb-true}
+use Rattle.agreement.specs.Sets.{Set, below, outside, tally}
+use Rattle.agreement.specs.Families.{Family, Families, DownwardClosed, Laws}
 use Rattle.agreement.proofs.Tests.{clash, and_left, and_right, and_both}
+use Rattle.agreement.proofs.Quorums.{closed_ignores}
 use Rattle.agreement.proofs.Sets.{tally_part, tally_cover, tally_empty, inside_part, part_inside}
 use Rattle.stations.specs.declared.StationSet.{StationSet}
 use Rattle.stations.specs.Members.{members}
-use Rattle.faults.specs.Rules.{threshold, listed}
+use Rattle.faults.specs.Rules.{threshold, listed, both_of}
 use Rattle.faults.specs.Lists.{at, Nested, Apart}
 use Rattle.faults.specs.WithinLemmas.{within_at, within_some, within_parts, cover_larger}
 
@@ -30,7 +31,7 @@ listed_laws n W N some nested apart = record {
   narrow_is_wide = λ X h.
       let r = within_some n N X h in
       let Z = members (at N r.0) in
-      within_parts n W X Z (inside_part n X Z r.2) (nested r.0 r.1);
+      within_parts n W X Z (inside_part n X Z r.2) (nested.each r.0 0 r.1);
   empty_is_narrow =
       within_at n N (λ _. false) 0 some
       (part_inside n (λ _. false) (members (at N 0)) (λ j h e. absurd (clash e refl)));
@@ -40,8 +41,7 @@ listed_laws n W N some nested apart = record {
       let k = within_some n W Y y in
       clash
       (cover_larger n X Y Z (members (at W j.0)) (members (at W k.0)) (members (at N i.0)) j.2 k.2 i.2 c)
-      (apart (i.0, j.0, k.0)
-      (and_both (lt-ltb i.0 (length N) i.1) (and_both (lt-ltb j.0 (length W) j.1) (lt-ltb k.0 (length W) k.1))));
+      (apart.none i.0 j.0 k.0 i.1 j.1 k.1);
 }
 
 -- what a family and another, which is shown the stations below n alone, both tolerate
@@ -53,3 +53,22 @@ both_parts n m F G f g X Y p h =
     narrowed : (j : ℕ) (b : Bool) → nat_lt j n ≡ b → (b && X j) ≡ true → (b && Y j) ≡ true
     narrowed j true e h = p j (ltb-true j n e) h
     narrowed j false e h = absurd (clash h refl)
+
+pub both_laws : (f g : Families) → Laws f → Laws g → Laws (both_of f g)
+both_laws f g p q = record {
+  wide_parts = both_parts f.n g.n f.wide g.wide p.wide_parts q.wide_parts;
+  narrow_parts = both_parts f.n g.n f.narrow g.narrow p.narrow_parts q.narrow_parts;
+  narrow_is_wide = λ X h.
+      and_both (p.narrow_is_wide X (and_left (f.narrow X) (g.narrow (below f.n X)) h))
+      (q.narrow_is_wide (below f.n X) (and_right (f.narrow X) (g.narrow (below f.n X)) h));
+  empty_is_narrow =
+      and_both p.empty_is_narrow
+      (q.narrow_parts (below f.n (λ _. false)) (λ _. false) (λ j h e. and_right (nat_lt j f.n) false e) q.empty_is_narrow);
+  no_cover = λ X Y Z x y z c. p.no_cover X Y Z (and_left (f.wide X) _ x) (and_left (f.wide Y) _ y) (and_left (f.narrow Z) _ z) c;
+}
+
+-- whether the stations of the rule outside a set are wide-tolerable
+pub wide_of_others : (f : Families) (X : Set) → Laws f → f.n ≤ 10 → f.wide (below (min f.n 16) (outside X)) ≡ f.wide (outside X)
+wide_of_others f X l h =
+    let n : min f.n 16 ≡ f.n = omega (arith, h) in
+    ap (λ (k : ℕ). f.wide (below k (outside X))) n ∙ closed_ignores f.n f.wide l.wide_parts (outside X)

@@ -1,5 +1,6 @@
 -- What the fault rules tolerate.
-use Rattle.std.specs.Prelude.{ℕ, false, ◌&&◌, ◌||◌, List, [], ◌∷◌, nat_le}
+use Rattle.std.specs.Prelude.{ℕ, ◌&&◌, List, nat_le}
+use Rattle.std.specs.List.{list_any}
 use Rattle.agreement.specs.Sets.{tally, below, inside}
 use Rattle.agreement.specs.Families.{Family, Families}
 use Rattle.stations.specs.declared.StationSet.{StationSet}
@@ -11,8 +12,7 @@ threshold n s a = record { n = n; wide = λ X. nat_le (tally n X) s; narrow = λ
 
 -- X lies inside a listed set.
 abbrev pub within : ℕ → List StationSet → Family
-within n [] X = false
-within n (G ∷ Gs) X = inside n X (members G) || within n Gs X
+within n L X = list_any (λ G. inside n X (members G)) L
 
 -- By lists: wide is what lies inside a set of the wide list, narrow what lies inside a set of the narrow list.
 abbrev pub listed : ℕ → List StationSet → List StationSet → Families

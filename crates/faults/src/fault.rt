@@ -1,10 +1,12 @@
 //! Why a fault rule is refused.
 
-ghost use Rattle.std.specs.Prelude.{◌≡◌};
-ghost use Rattle.faults.specs.Faults.{number};
+ghost use Rattle.std.specs.Prelude.{◌≡◌, Some};
+ghost use Rattle.faults.specs.Faults.{number, reason};
 ghost use Rattle.faults.specs.declared.fault.Fault.TheVariants.{Memory};
 
 use std::alloc::AllocError;
+use std::error::Error;
+use std::fmt;
 
 /// A narrow set and two wide ones that together hold every station, each by its place in its list. The two
 /// wide ones may be the same.
@@ -34,7 +36,7 @@ pub enum Fault {
 }
 
 impl Fault {
-    /// The number by which the fault is reported.
+    /// The number by which the fault is reported. A method and no `From`: a call says what the number is.
     pub fn number(self) -> u8
         ensures { result ≡ number self }
     {
@@ -48,6 +50,29 @@ impl Fault {
         }
     }
 }
+
+// These three by hand: what the crate thiserror writes has no contract.
+
+/// The reason in words, with no full stop.
+impl fmt::Display for Fault {
+    ghost output = { λ f. Some (reason f) };
+
+    fn fmt<W: fmt::Write>(&self, f: &mut fmt::Formatter<W>) -> fmt::Result {
+        f.write_str(match self {
+            Fault::Size => "a rule has 1 to 10 stations",
+            Fault::NarrowBeyondWide => "some narrow guests would not be wide guests too",
+            Fault::Cover =>
+                "two sets of wide guests and one of narrow guests could be all the stations",
+            Fault::CoveredBy(_) =>
+                "these sets, two wide and one narrow, hold all the stations (places count from 0)",
+            Fault::Lists => "a list must have 1 to 8 sets, all of stations that the rule has",
+            Fault::Form => "these bytes are not a rule body",
+            Fault::Memory => "there is no memory for the rule",
+        })
+    }
+}
+
+impl Error for Fault {}
 
 impl From<AllocError> for Fault {
     ghost from_gives = { λ _ r. r ≡ Memory };

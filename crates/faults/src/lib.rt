@@ -6,6 +6,7 @@ pub mod both;
 pub mod fault;
 pub mod listed;
 pub mod rule;
+pub mod size;
 
 pub use stations::StationSet;
 

@@ -1,57 +1,59 @@
 //! Fault rules by counting.
 
 ghost use Rattle.std.specs.Prelude.{◌+◌, ◌*◌, ◌<◌, ◌≤◌};
-ghost use Rattle.faults.specs.Rules.{threshold};
-ghost use Rattle.agreement.proofs.Quorums.{closed_ignores};
-ghost use Rattle.faults.specs.RuleLaws.{threshold_laws};
 
-use crate::rule::FaultRule;
+use crate::fault::Fault;
+use crate::rule::{FaultRule, Sense};
+use crate::size::RuleSize;
 use stations::StationSet;
-
-mod making;
 
 /// At most s stations may be guests in the wide sense, and at most a in the narrow one.
 #[derive(Clone, Copy)]
 pub struct Threshold {
-    n: u8,
+    size: RuleSize,
     s: u8,
     a: u8,
-    ghost low: { 1 ≤ n },
-    ghost high: { n ≤ 10 },
     ghost nested: { a ≤ s },
-    ghost apart: { a + 2 * s < n },
+    ghost apart: { a + 2 * s < size.n },
+}
+
+impl Threshold {
+    ghost use Rattle.faults.specs.Made.{ThresholdMade};
+
+    /// The rule of n stations that tolerates at most s guests in the wide sense and at most a in the narrow one.
+    pub fn new(n: u8, s: u8, a: u8) -> Result<Threshold, Fault>
+        ensures { ThresholdMade n s a result }
+    {
+        let size = RuleSize::try_from(n)?;
+        if a > s {
+            return Err(Fault::NarrowBeyondWide);
+        }
+        if a as u16 + 2 * s as u16 >= n as u16 {
+            return Err(Fault::Cover);
+        }
+        Ok(Threshold { size, s, a })
+    }
 }
 
 impl FaultRule for Threshold {
-    ghost families = { λ t. threshold t.n t.s t.a };
+    ghost use Rattle.faults.specs.Rules.{threshold};
+    ghost use Rattle.faults.specs.RuleLaws.{threshold_laws};
 
-    ghost size_from_1 = { λ t. t.low };
+    ghost families = { λ t. threshold t.size.n t.s t.a };
 
-    ghost size_to_10 = { λ t. t.high };
+    ghost sized = { λ t. (t.size.low, t.size.high) };
 
-    ghost wide_parts = { λ t. (threshold_laws t.n t.s t.a t.nested t.apart).wide_parts };
-
-    ghost narrow_parts = { λ t. (threshold_laws t.n t.s t.a t.nested t.apart).narrow_parts };
-
-    ghost wide_ignores = { λ t. closed_ignores t.n (threshold t.n t.s t.a).wide (threshold_laws t.n t.s t.a t.nested t.apart).wide_parts };
-
-    ghost narrow_ignores = { λ t. closed_ignores t.n (threshold t.n t.s t.a).narrow (threshold_laws t.n t.s t.a t.nested t.apart).narrow_parts };
-
-    ghost narrow_is_wide = { λ t. (threshold_laws t.n t.s t.a t.nested t.apart).narrow_is_wide };
-
-    ghost empty_is_narrow = { λ t. (threshold_laws t.n t.s t.a t.nested t.apart).empty_is_narrow };
-
-    ghost no_cover = { λ t. (threshold_laws t.n t.s t.a t.nested t.apart).no_cover };
+    ghost laws = { λ t. threshold_laws t.size.n t.s t.a t.nested t.apart };
 
     fn size(&self) -> u8 {
-        self.n
+        self.size.n
     }
 
-    fn is_wide(&self, x: StationSet) -> bool {
-        x.has_at_most(self.s, self.n)
-    }
-
-    fn is_narrow(&self, x: StationSet) -> bool {
-        x.has_at_most(self.a, self.n)
+    fn tolerates(&self, sense: Sense, x: StationSet) -> bool {
+        let most = match sense {
+            Sense::Wide => self.s,
+            Sense::Narrow => self.a,
+        };
+        x.has_at_most(most, self.size.n)
     }
 }

@@ -1,5 +1,5 @@
 -- The format of a rule body.
-use Rattle.std.specs.Prelude.{◌≡◌, ℕ, ◌+◌, ◌*◌, ◌<◌, ◌≤◌, List, length, slice_index}
+use Rattle.std.specs.Prelude.{◌≡◌, ℕ, ◌+◌, ◌*◌, ◌<◌, ◌≤◌, List, [], ◌∷◌, length, slice_index}
 use Rattle.stations.specs.declared.StationSet.{StationSet}
 use Rattle.faults.specs.Lists.{at}
 
@@ -22,6 +22,12 @@ IsListed bytes =
     (4 ≤ length bytes) × (byte bytes 0 ≡ 2) × (length bytes ≡ 4 + 2 * (byte bytes 2 + byte bytes 3))
     × ((k : ℕ) → k < byte bytes 2 + byte bytes 3 → word bytes (4 + 2 * k) < 1024)
 
+-- The two-byte numbers in a row.
+abbrev pub words : List ℕ → List ℕ
+words [] = []
+words (a ∷ []) = []
+words (a ∷ b ∷ bytes) = (a + 256 * b) ∷ words bytes
+
 -- The list has the sets that stand from a place on.
 abbrev pub SetsAt : List ℕ → ℕ → ℕ → List StationSet → Type 0
-SetsAt bytes from count L = (length L ≡ count) × ((i : ℕ) → i < count → (at L i).bits ≡ word bytes (from + 2 * i))
+SetsAt bytes from count L = (length L ≡ count) × ((i : ℕ) → i < count → at L i ≡ word bytes (from + 2 * i))

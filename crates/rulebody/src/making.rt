@@ -15,9 +15,9 @@ impl RuleBody {
         ensures { BodyMade self.now result }
     {
         match self {
-            RuleBody::Threshold { n, s, a } => Ok(Rule::Threshold(Threshold::new(*n, *s, *a)?)),
+            RuleBody::Threshold { n, s, a } => Threshold::new(*n, *s, *a).map(Rule::Threshold),
             RuleBody::Listed { n, wide, narrow } => {
-                Ok(Rule::Listed(Listed::new(heap, *n, wide.as_slice(), narrow.as_slice())?))
+                Listed::new(heap, *n, wide, narrow).map(Rule::Listed)
             }
         }
     }

@@ -1,63 +1,67 @@
 //! Reading a rule body.
 
-ghost use Rattle.std.specs.Prelude.{◌≡◌, ℕ, ◌+◌, ◌*◌, ◌<◌, ◌≤◌, true, false, length, MatchResult};
-ghost use Rattle.rulebody.specs.Format.{byte, word, IsListed, SetsAt};
-ghost use Rattle.rulebody.specs.Bodies.{BodyRead};
+ghost use Rattle.std.specs.Prelude.{◌≡◌, ◌<◌, ◌↔◌, length, All, IsTrue, MatchResult};
+ghost use Rattle.rulebody.specs.Format.{word, words};
+ghost use Rattle.rulebody.specs.Bodies.{BodyRead, ListsRead};
 
 use crate::body::RuleBody;
 use faults::fault::Fault;
 use stations::StationSet;
 use std::alloc::{AllocError, Global};
 
-// The two-byte number at a place, low byte first.
-fn word_at(bytes: &[u8], place: usize) -> u16
-    requires { place + 1 < length bytes.now }
-    ensures { result ≡ word bytes.now place }
+// The first byte of a body, of a rule by numbers or by lists. No enum: a pattern that names the byte is plainer than one
+// that is read first and matched then.
+const THRESHOLD: u8 = 1;
+
+const LISTED: u8 = 2;
+
+// The number that two bytes say, low byte first.
+fn number(pair: &[u8]) -> u16
+    requires { length pair.now ≡ 2 }
+    ensures { result ≡ word pair.now 0 }
 {
-    bytes[place] as u16 + 256 * bytes[place + 1] as u16
+    u16::from_le_bytes([pair[0], pair[1]])
 }
 
-// Whether none of the sets after the head has a bit above 9.
-fn are_low(bytes: &[u8], sets: usize) -> bool
-    requires { length bytes.now ≡ 4 + 2 * sets }
-    ensures yes { result ≡ true → (k : ℕ) → k < sets → word bytes.now (4 + 2 * k) < 1024 }
-    ensures none { result ≡ false → ((k : ℕ) → k < sets → word bytes.now (4 + 2 * k) < 1024) → ⊥ }
+// Whether two bytes say a number with no bit above 9.
+fn is_low(pair: &[u8]) -> bool
+    requires { length pair.now ≡ 2 }
+    ensures { IsTrue result ↔ (word pair.now 0 < 1024) }
 {
-    for i in 0..sets {
-        if word_at(bytes, 4 + 2 * i) >= 1024 {
-            return false;
-        }
-    }
-    true
+    number(pair) < 1024
 }
 
-// Whether the bytes are the body of a listed rule.
-fn is_listed(bytes: &[u8]) -> bool
-    ensures yes { result ≡ true → IsListed bytes.now }
-    ensures none { result ≡ false → IsListed bytes.now → ⊥ }
+// Whether none of the sets in the bytes has a bit above 9.
+fn are_low(sets: &[u8]) -> bool
+    ensures { IsTrue result ↔ All (λ x. x < 1024) (words sets.now) }
 {
-    if bytes.len() < 4 || bytes[0] != 2 {
-        return false;
-    }
-    let sets = bytes[2] as usize + bytes[3] as usize;
-    bytes.len() == 4 + 2 * sets && are_low(bytes, sets)
+    sets.chunks_exact(2).all(is_low)
 }
 
-// The sets that stand from a place on.
-fn sets_at(
-    heap: Global,
-    bytes: &[u8],
-    from: usize,
-    count: usize,
-) -> Result<Vec<StationSet>, AllocError>
-    requires { from + 2 * count ≤ length bytes.now }
-    ensures { MatchResult result (λ v. SetsAt bytes.now from count v.items) (λ _. 0 < count) }
+// The sets in the bytes.
+fn read_sets(heap: Global, sets: &[u8]) -> Result<Vec<StationSet>, AllocError>
+    ensures { MatchResult result (λ v. v.items ≡ words sets.now) (λ _. 1 < length sets.now) }
 {
-    let mut sets = Vec::new(heap);
-    for i in 0..count {
-        sets.push(StationSet::from_bits(word_at(bytes, from + 2 * i)))?;
+    // No `collect`: its contract doesn't say that it succeeds where nothing is to be kept.
+    let mut list = Vec::new(heap);
+    for pair in sets.chunks_exact(2) {
+        list.push(StationSet::from(number(pair)))?;
     }
-    Ok(sets)
+    Ok(list)
+}
+
+// The body with these sets after its first four bytes.
+fn read_lists(heap: Global, n: u8, wide: u8, narrow: u8, sets: &[u8]) -> Result<RuleBody, Fault>
+    ensures { ListsRead n wide narrow sets.now result }
+{
+    let middle = 2 * wide as usize;
+    if sets.len() != middle + 2 * narrow as usize || !are_low(sets) {
+        return Err(Fault::Form);
+    }
+    let (wide, narrow) = sets.split_at(middle);
+    let wide = read_sets(heap, wide)?;
+    let narrow = read_sets(heap, narrow)?;
+    Ok(RuleBody::Listed { n, wide, narrow })
 }
 
 impl RuleBody {
@@ -65,23 +69,14 @@ impl RuleBody {
     pub fn read(heap: Global, bytes: &[u8]) -> Result<RuleBody, Fault>
         ensures { BodyRead bytes.now result }
     {
-        if let [1, n, s, a] = bytes {
-            return Ok(RuleBody::Threshold {
+        match bytes {
+            [THRESHOLD, n, s, a] => Ok(RuleBody::Threshold {
                 n: *n,
                 s: *s,
                 a: *a,
-            });
+            }),
+            [LISTED, n, wide, narrow, sets @ ..] => read_lists(heap, *n, *wide, *narrow, sets),
+            _ => Err(Fault::Form),
         }
-        if !is_listed(bytes) {
-            return Err(Fault::Form);
-        }
-        let middle = 4 + 2 * bytes[2] as usize;
-        let wide = sets_at(heap, bytes, 4, bytes[2] as usize)?;
-        let narrow = sets_at(heap, bytes, middle, bytes[3] as usize)?;
-        Ok(RuleBody::Listed {
-            n: bytes[1],
-            wide,
-            narrow,
-        })
     }
 }

@@ -2,11 +2,10 @@
 
 ghost use Rattle.rulebody.specs.Kinds.{meant};
 ghost use Rattle.rulebody.specs.declared.rule.Rule.TheVariants.{Threshold, Listed};
-ghost use Rattle.rulebody.specs.KindLaws.{laws};
-ghost use Rattle.agreement.proofs.Quorums.{closed_ignores};
+ghost use Rattle.rulebody.specs.KindLaws.{sized, laws};
 
 use faults::listed::Listed;
-use faults::rule::FaultRule;
+use faults::rule::{FaultRule, Sense};
 use faults::threshold::Threshold;
 use stations::StationSet;
 
@@ -20,24 +19,11 @@ pub enum Rule {
 impl FaultRule for Rule {
     ghost families = { meant };
 
-    ghost size_from_1 = { elim [ Threshold t ↦ t.low | Listed t ↦ t.low ] };
+    ghost sized = { sized };
 
-    ghost size_to_10 = { elim [ Threshold t ↦ t.high | Listed t ↦ t.high ] };
+    ghost laws = { laws };
 
-    ghost wide_parts = { λ r. (laws r).wide_parts };
-
-    ghost narrow_parts = { λ r. (laws r).narrow_parts };
-
-    ghost wide_ignores = { λ r. closed_ignores (meant r).n (meant r).wide (laws r).wide_parts };
-
-    ghost narrow_ignores = { λ r. closed_ignores (meant r).n (meant r).narrow (laws r).narrow_parts };
-
-    ghost narrow_is_wide = { λ r. (laws r).narrow_is_wide };
-
-    ghost empty_is_narrow = { λ r. (laws r).empty_is_narrow };
-
-    ghost no_cover = { λ r. (laws r).no_cover };
-
+    // Each kind is asked by name: `make` may not hand out a boxed rule, so the kinds stand in an enum.
     fn size(&self) -> u8 {
         match self {
             Rule::Threshold(rule) => rule.size(),
@@ -45,17 +31,10 @@ impl FaultRule for Rule {
         }
     }
 
-    fn is_wide(&self, x: StationSet) -> bool {
+    fn tolerates(&self, sense: Sense, x: StationSet) -> bool {
         match self {
-            Rule::Threshold(rule) => rule.is_wide(x),
-            Rule::Listed(rule) => rule.is_wide(x),
-        }
-    }
-
-    fn is_narrow(&self, x: StationSet) -> bool {
-        match self {
-            Rule::Threshold(rule) => rule.is_narrow(x),
-            Rule::Listed(rule) => rule.is_narrow(x),
+            Rule::Threshold(rule) => rule.tolerates(sense, x),
+            Rule::Listed(rule) => rule.tolerates(sense, x),
         }
     }
 }

@@ -4,4 +4,4 @@ use Rattle.stations.specs.declared.StationSet.{StationSet}
 
 -- The stations of a set of the program.
 abbrev pub members : StationSet → Set
-members x = holds x.bits
+members x = holds x

@@ -2,17 +2,29 @@
 
 #![tactic(auto)]
 
-ghost use Rattle.std.specs.Prelude.{◌≡◌, ◌-◌, ◌^◌, ◌<◌, min, ◌++◌, if◌then◌else◌, Some, codes, nat_le, nat_lt};
+ghost use Rattle.std.specs.Prelude.{◌≡◌, ℕ, ◌-◌, ◌^◌, ◌<◌, min, ◌++◌, if◌then◌else◌, Some, codes, nat_le, nat_lt};
 ghost use Rattle.agreement.specs.Sets.{up_to, both, below, outside, without, either, only, inside, every, covers, tally};
 ghost use Rattle.stations.specs.Members.{members};
 ghost use Rattle.stations.specs.Text.{listed};
 
 use std::fmt;
+use std::marker::Model;
 
 /// A set of stations with numbers below 16: a number in which station i counts 2^i.
 #[derive(Clone, Copy, PartialEq, Eq, Debug)]
 pub struct StationSet {
     bits: u16,
+}
+
+/// Clauses see a set as its number, and its stations by `members`.
+impl Model for StationSet {
+    ghost use Rattle.std.specs.Prelude.{ℕ, ◌<◌};
+
+    ghost Value = { ℕ };
+
+    ghost view = { λ x. x.bits };
+
+    ghost inverse = { λ n. record { bits = n } };
 }
 
 // The number of the set of all stations below n, and below 16.
@@ -22,14 +34,16 @@ fn mask(n: u8) -> u16
     if n < 16 { (1 << n) - 1 } else { u16::MAX }
 }
 
-impl StationSet {
-    /// The set with this number.
-    pub fn from_bits(bits: u16) -> StationSet
-        ensures { result.bits ≡ bits }
-    {
+/// The set with this number.
+impl From<u16> for StationSet {
+    ghost from_gives = { λ bits x. x ≡ bits };
+
+    fn from(bits: u16) -> StationSet {
         StationSet { bits }
     }
+}
 
+impl StationSet {
     /// Whether a station is in the set; none from 16 on is.
     pub fn has(self, station: u8) -> bool
         ensures { result ≡ below 16 (members self) station }
@@ -78,7 +92,7 @@ impl StationSet {
 
     /// Whether the set has no station from n on: its number is below 2^n.
     pub fn is_below(self, n: u8) -> bool
-        ensures { result ≡ nat_lt self.bits (2 ^ min n 16) }
+        ensures { result ≡ nat_lt self (2 ^ min n 16) }
     {
         n >= 16 || self.bits < 1 << n
     }
@@ -161,6 +175,7 @@ impl fmt::Display for StationSet {
     fn fmt<W: fmt::Write>(&self, f: &mut fmt::Formatter<W>) -> fmt::Result {
         write!(f, "{{")?;
         let mut comma = "";
+        // No filter: a loop over one doesn't prove in a function with a type parameter, and a helper is no plainer.
         for station in 0..16u8 {
             if self.has(station) {
                 write!(f, "{comma}{station}")?;

@@ -1,52 +1,60 @@
--- A list of sets in ascending order, one number after another.
-use Rattle.std.proofs.Common.{◌≡◌, ℕ, ◌+◌, ◌<◌, eqb, List, [], ◌∷◌, ◌++◌, length, sym, ap, ◌∙◌, subst, inl, inr, arith, eqb-true}
-use borrow.Author.Tests.{eqb-false}
+-- The numbers below k that pass a test, in their order.
+use Rattle.std.proofs.Common.{◌≡◌, ℕ, zero, suc, ◌<◌, Bool, true, List, [], ◌∷◌, length, get_or, refl, inl, inr, arith, filter, Contains, ◌^◌, Ok, Err, Result, Vec, IfOk, filter, Contains}
+use Rattle.std.proofs.lemmas.List.Elements.{All-filter, filter_passes, All-weaker}
+use Rattle.std.proofs.lemmas.List.FromFn.{length-range_with_len, get_or-range_with_len}
+use Rattle.std.proofs.lemmas.List.Kept.{AllPairs-filter}
+use Rattle.std.specs.List.{range_with_len}
 use Rattle.agreement.proofs.Tests.{true_or_false}
-use Rattle.agreement.proofs.Places.{one_more, at_old, at_new, at_each}
+use Rattle.agreement.specs.Sets.{holds}
+use Rattle.agreement.specs.Families.{Families, Laws, DownwardClosed}
+use Rattle.std.specs.declared.alloc.Global.{Global}
+use Rattle.std.specs.declared.alloc.AllocError.{AllocError}
 use Rattle.stations.specs.declared.StationSet.{StationSet}
-use Rattle.faults.specs.Lists.{at}
-use Rattle.survey.specs.Largest.{Lists}
+use Rattle.stations.specs.Members.{members}
+use Rattle.faults.specs.declared.rule.Sense.{Sense}
+use Rattle.faults.specs.declared.rule.Sense.TheVariants.{Wide, Narrow}
+use Rattle.faults.specs.Senses.{family}
+use Rattle.survey.proofs.Growing.{maximal_largest, largest_maximal}
+use Rattle.survey.specs.Largest.{Largest, maximal, Lists, AllLargest}
 
--- a number that does not keep P is passed over
-pub lists_skip : (k : ℕ) (P : ℕ → Type 0) (L : List StationSet) → Lists k P L → (P k → ⊥) → Lists (k + 1) P L
-lists_skip k P L l no_more = record {
-  under = λ i h. let u = l.under i h in omega arith;
-  keep = l.keep;
-  ascend = l.ascend;
-  all = λ x h p. elim (true_or_false (eqb x k)) [
-    | inl t ↦ absurd (no_more (subst P (eqb-true x k t) p))
-    | inr t ↦ let ne : (x ≡ k → ⊥) = eqb-false x k t in l.all x (omega (arith, ne)) p
-  ];
-}
+-- what passes the test is kept
+contains_filter : (test : ℕ → Bool) (xs : List ℕ) (x : ℕ) → Contains xs x → test x ≡ true → Contains (filter test xs) x
+contains_filter test [] x c t = absurd (omega (arith, c.1))
+contains_filter test (y ∷ ys) x (zero, h, e) t = rw (e, t) (0, omega arith, refl)
+contains_filter test (y ∷ ys) x (suc k, h, e) t =
+    let r = contains_filter test ys x (k, omega (arith, h), e) t in
+    elim (true_or_false (test y)) [
+      | inl p ↦ rw p (suc r.0, omega (arith, r.1), r.2)
+      | inr p ↦ rw p r
+    ]
 
--- a number that keeps P is put at the end
-pub lists_push : (k : ℕ) (P : ℕ → Type 0) (L : List StationSet) (x : StationSet) → Lists k P L → x.bits ≡ k → P k
-    → Lists (k + 1) P (L ++ x ∷ [])
-lists_push k P L x l e p = record {
-  under = each (λ i y. y.bits < k + 1) (λ i o. let u = l.under i o in omega arith) (omega arith);
-  keep = each (λ i y. P y.bits) l.keep (subst P (sym e) p);
-  ascend = λ i j h b.
-      let o : i < length L = omega (arith, more) in
-      each (λ m y. i < m → (at (L ++ x ∷ []) i).bits < y.bits)
-      (λ m q g. rw (old i o) (l.ascend i m g q))
-      (λ g. rw (old i o) (let u = l.under i o in omega arith)) j b h;
-  all = λ y h q. elim (true_or_false (eqb y k)) [
-    | inl t ↦ (length L, omega (arith, more), ap (λ (z : StationSet). z.bits) here ∙ (e ∙ sym (eqb-true y k t)))
-    | inr t ↦ let ne : (y ≡ k → ⊥) = eqb-false y k t in
-        let r = l.all y (omega (arith, ne)) q in
-        (r.0, omega (arith, more, r.1), ap (λ (z : StationSet). z.bits) (old r.0 r.1) ∙ r.2)
-  ];
+place : (k i d : ℕ) → i < length (range_with_len 0 k) → get_or (range_with_len 0 k) i d ≡ i
+place k i d h = omega (arith, get_or-range_with_len 0 k i d (omega (arith, h, length-range_with_len 0 k)))
+
+pub lists_filter : (P : ℕ → Type 0) (test : ℕ → Bool) → ((x : ℕ) → test x ≡ true → P x) → ((x : ℕ) → P x → test x ≡ true)
+    → (k : ℕ) → Lists k P (filter test (range_with_len 0 k))
+lists_filter P test sound whole k = record {
+  under = All-filter test (λ x. x < k) all (λ i d h. omega (arith, place k i d h, h, length-range_with_len 0 k));
+  keep = All-weaker (λ x. test x ≡ true) P sound (filter test all) (filter_passes test all);
+  ascend = AllPairs-filter (λ x y. x < y) test all (λ i j d h b. omega (arith, h, place k i d (omega (arith, h, b)), place k j d b));
+  all = λ x h p.
+      let b : x < length all = omega (arith, h, length-range_with_len 0 k) in
+      contains_filter test all x (x, b, place k x x b) (whole x p);
 }
   where
-    more : length (L ++ x ∷ []) ≡ length L + 1
-    more = one_more (record { bits = 0 }) L x
+    all : List ℕ
+    all = range_with_len 0 k
 
-    old : (i : ℕ) → i < length L → at (L ++ x ∷ []) i ≡ at L i
-    old = at_old (record { bits = 0 }) L x
+-- the family of either sense has every part of its sets
+parts : (f : Families) → Laws f → (s : Sense) → DownwardClosed f.n (family f s)
+parts f l Wide = l.wide_parts
+parts f l Narrow = l.narrow_parts
 
-    here : at (L ++ x ∷ []) (length L) ≡ x
-    here = at_new (record { bits = 0 }) L x
-
-    each : (Q : ℕ → StationSet → Type 0) → ((i : ℕ) → i < length L → Q i (at L i)) → Q (length L) x
-        → (i : ℕ) → i < length (L ++ x ∷ []) → Q i (at (L ++ x ∷ []) i)
-    each = at_each (record { bits = 0 }) L x
+-- the maximal sets, in their order, are the largest ones
+pub all_largest : (f : Families) (s : Sense) (r : Result (Vec StationSet Global) AllocError) → Laws f
+    → IfOk r (λ v. v.items ≡ filter (λ x. maximal f s (members x)) (range_with_len 0 (2 ^ f.n))) → IfOk r (λ v. AllLargest f s v.items)
+all_largest f s (Err e) l m = m
+all_largest f s (Ok v) l m =
+    rw m
+    (lists_filter (λ x. Largest f s (holds x)) (λ x. maximal f s (holds x))
+    (λ x. maximal_largest f s (holds x) (parts f l s)) (λ x. largest_maximal f s (holds x)) (2 ^ f.n))

@@ -2,60 +2,61 @@
 
 #![tactic(auto)]
 
-ghost use Rattle.std.specs.Prelude.{◌≡◌, ◌^◌, true, false, IfOk, OnOk};
+ghost use Rattle.std.specs.Prelude.{◌≡◌, ◌^◌, ◌<◌, filter, IfOk};
+ghost use Rattle.std.specs.List.{range_with_len};
 ghost use Rattle.stations.specs.Members.{members};
-ghost use Rattle.survey.specs.Largest.{CanGrow, CannotGrow, Maximal, Gathered, AllLargest};
+ghost use Rattle.survey.specs.Largest.{cannot_gain, cannot_grow, maximal, AllLargest};
 
 use faults::rule::{FaultRule, Sense};
 use stations::StationSet;
 use std::alloc::{AllocError, Global};
 
-// Whether some set with one station more is tolerable too.
-fn can_grow<F: FaultRule>(rule: &F, sense: Sense, x: StationSet) -> bool
-    ensures yes { result ≡ true → CanGrow (F.FaultRule.families rule.now) sense (members x) }
-    ensures none { result ≡ false → CannotGrow (F.FaultRule.families rule.now) sense (members x) }
-{
-    for station in 0..rule.size() {
-        if !x.has(station) && rule.tolerates(sense, x.with(station)) {
-            return true;
-        }
-    }
-    false
-}
-
-// Whether x is tolerable, and no tolerable set properly contains it.
-fn is_largest<F: FaultRule>(rule: &F, sense: Sense, x: StationSet) -> bool
-    ensures yes { result ≡ true → Maximal (F.FaultRule.families rule.now) sense (members x) }
-    ensures none { result ≡ false → Maximal (F.FaultRule.families rule.now) sense (members x) → ⊥ }
-{
-    rule.tolerates(sense, x) && !can_grow(rule, sense, x)
-}
-
-// How many sets of the rule's stations there are.
-fn count_sets<F: FaultRule>(rule: &F) -> u16
-    ensures { result ≡ 2 ^ (F.FaultRule.families rule.now).n }
-{
-    1 << rule.size()
-}
-
-// Puts the set with the number `bits` at the end of the largest ones below it, if it is one.
-fn gather<F: FaultRule>(
-    rule: &F,
+// What a rule tolerates in one sense.
+#[derive(Drop)]
+struct Family<'a, F: FaultRule> {
+    rule: &'a F,
     sense: Sense,
-    found: &mut Vec<StationSet>,
-    bits: u16,
-) -> Result<(), AllocError>
-    ensures { OnOk result (Gathered bits (F.FaultRule.families rule.now) sense found.old found.new) }
-{
-    let x = StationSet::from_bits(bits);
-    if is_largest(rule, sense, x) {
-        found.push(x)?;
+}
+
+impl<F: FaultRule> Family<'_, F> {
+    // Whether x has the station, or is not tolerable with it.
+    fn cannot_gain(&self, x: StationSet, station: u8) -> bool
+        ensures { station < 16
+            → result ≡ cannot_gain (F.FaultRule.families self.now.rule.now) self.now.sense (members x) station }
+    {
+        x.has(station) || !self.rule.tolerates(self.sense, x.with(station))
     }
-    Ok(())
+
+    // Whether no set with one station more is tolerable.
+    fn cannot_grow(&self, x: StationSet) -> bool
+        ensures { result ≡ cannot_grow (F.FaultRule.families self.now.rule.now) self.now.sense (members x) }
+    {
+        (0..self.rule.size()).all(|station| self.cannot_gain(x, station))
+    }
+
+    // Whether x is tolerable and cannot grow by one station.
+    fn is_maximal(&self, x: StationSet) -> bool
+        ensures { result ≡ maximal (F.FaultRule.families self.now.rule.now) self.now.sense (members x) }
+    {
+        self.rule.tolerates(self.sense, x) && self.cannot_grow(x)
+    }
+
+    // The tolerable sets that cannot grow by one station, in ascending order of their numbers.
+    fn maximal_sets(&self, heap: Global) -> Result<Vec<StationSet>, AllocError>
+        ensures { IfOk result (λ v. v.items ≡ filter
+            (λ x. maximal (F.FaultRule.families self.now.rule.now) self.now.sense (members x))
+            (range_with_len 0 (2 ^ (F.FaultRule.families self.now.rule.now).n))) }
+    {
+        (0..1 << self.rule.size())
+            .map(StationSet::from)
+            .filter(|x| self.is_maximal(*x))
+            .collect(heap)
+    }
 }
 
 /// The largest sets that a rule tolerates in one sense: those that no tolerable set properly contains,
 /// each once, in ascending order of their numbers.
+#[tactic(auto, using(crate::proofs::Listing::all_largest))]
 pub fn largest_sets<F: FaultRule>(
     heap: Global,
     rule: &F,
@@ -63,9 +64,5 @@ pub fn largest_sets<F: FaultRule>(
 ) -> Result<Vec<StationSet>, AllocError>
     ensures { IfOk result (λ v. AllLargest (F.FaultRule.families rule.now) sense v.items) }
 {
-    let mut found = Vec::new(heap);
-    for bits in 0..count_sets(rule) {
-        gather(rule, sense, &mut found, bits)?;
-    }
-    Ok(found)
+    Family { rule, sense }.maximal_sets(heap)
 }

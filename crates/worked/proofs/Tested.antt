@@ -1,5 +1,7 @@
 -- A test that computes what a case comes to, and that the test is right.
 use Rattle.std.proofs.Common.{◌≡◌, ℕ, ◌+◌, ◌*◌, ◌^◌, ◌<◌, Bool, true, false, not, ◌&&◌, ltb, leb, List, [], ◌∷◌, length, Some, None, Option, refl, arith, ltb-true, leb-true}
+use Rattle.std.proofs.lemmas.List.Elements.{All-from_get_or}
+use Rattle.std.specs.Bool.{IsTrue}
 use Rattle.agreement.specs.Sets.{every}
 use Rattle.agreement.proofs.Tests.{clash, and_left, and_right}
 use Rattle.agreement.proofs.Sets.{every_at}
@@ -9,8 +11,9 @@ use Rattle.faults.specs.declared.fault.Fault.{Fault}
 use Rattle.faults.specs.declared.fault.Fault.TheVariants.{Size, NarrowBeyondWide, Cover, CoveredBy, Lists, Form, Memory}
 use Rattle.faults.specs.declared.fault.Three.{Three}
 use Rattle.faults.specs.Rules.{within}
-use Rattle.faults.specs.Lists.{Sized, at, Proper, Nested, covered, Apart, FirstThree}
-use Rattle.worked.specs.Cases.{Case, threshold, lists, sets, Comes, table, AllCome}
+use Rattle.faults.specs.Sizes.{Sized}
+use Rattle.faults.specs.Lists.{at, Proper, Nested, covered, Apart, FirstThree}
+use Rattle.worked.specs.Cases.{Case, threshold, lists, Comes, table, AllCome}
 
 abbrev sized : ℕ → Bool
 sized n = leb 1 n && leb n 10
@@ -19,16 +22,17 @@ is_sized : (n : ℕ) → sized n ≡ true → Sized n
 is_sized n e = (leb-true 1 n (and_left (leb 1 n) (leb n 10) e), leb-true n 10 (and_right (leb 1 n) (leb n 10) e))
 
 abbrev proper : ℕ → List StationSet → Bool
-proper n L = leb 1 (length L) && (leb (length L) 8 && every (length L) (λ i. ltb (at L i).bits (2 ^ n)))
+proper n L = leb 1 (length L) && (leb (length L) 8 && every (length L) (λ i. ltb (at L i) (2 ^ n)))
 
 is_proper : (n : ℕ) (L : List StationSet) → proper n L ≡ true → Proper n L
 is_proper n L e =
     let few : Bool = leb (length L) 8 in
-    let low : Bool = every (length L) (λ i. ltb (at L i).bits (2 ^ n)) in
+    let low : Bool = every (length L) (λ i. ltb (at L i) (2 ^ n)) in
     let rest : (few && low) ≡ true = and_right (leb 1 (length L)) (few && low) e in (
       leb-true 1 (length L) (and_left (leb 1 (length L)) (few && low) e),
       leb-true (length L) 8 (and_left few low rest),
-      λ i h. ltb-true (at L i).bits (2 ^ n) (every_at (length L) (λ k. ltb (at L k).bits (2 ^ n)) (and_right few low rest) i h),
+      All-from_get_or (λ x. x < 2 ^ n) L 0
+          (λ i h. ltb-true (at L i) (2 ^ n) (every_at (length L) (λ k. ltb (at L k) (2 ^ n)) (and_right few low rest) i h)),
     )
 
 abbrev nested : ℕ → List StationSet → List StationSet → Bool
@@ -61,13 +65,7 @@ module _ (n : ℕ) (N W : List StationSet) where
   apart = rows (length N) (length W) (length W)
 
   is_apart : apart ≡ true → Apart n N W
-  is_apart e t h =
-      let a = ltb t.0 (length N) in
-      let b = ltb t.1 (length W) in
-      let c = ltb t.2 (length W) in
-      let bc = and_right a (b && c) h in
-      row_at (length N) (length W) (length W) e t.0 t.1 t.2 (ltb-true t.0 (length N) (and_left a (b && c) h))
-      (ltb-true t.1 (length W) (and_left b c bc)) (ltb-true t.2 (length W) (and_right b c bc))
+  is_apart e = record { none = row_at (length N) (length W) (length W) e }
 
   -- the three places are there, their sets hold every station, and none before them do
   abbrev first_three : Three → Bool
@@ -111,7 +109,10 @@ are_good n W N e =
       is_sized n (and_left (sized n) (proper n W && (proper n N && nested n N W)) e),
       is_proper n W (and_left (proper n W) (proper n N && nested n N W) rest),
       is_proper n N (and_left (proper n N) (nested n N W) last),
-      every_at (length N) (λ i. within n W (members (at N i))) (and_right (proper n N) (nested n N W) last),
+      record {
+        each = All-from_get_or (λ x. IsTrue (within n W (members x))) N 0
+            (every_at (length N) (λ i. within n W (members (at N i))) (and_right (proper n N) (nested n N W) last));
+      },
     )
 
 -- the test of a case: true only where it comes to this
@@ -124,11 +125,11 @@ test (threshold n s a) (Some (CoveredBy t)) = false
 test (threshold n s a) (Some Lists) = false
 test (threshold n s a) (Some Form) = false
 test (threshold n s a) (Some Memory) = false
-test (lists n W N) None = lists_good n (sets W) (sets N) && apart n (sets N) (sets W)
+test (lists n W N) None = lists_good n W N && apart n N W
 test (lists n W N) (Some Size) = false
 test (lists n W N) (Some NarrowBeyondWide) = false
 test (lists n W N) (Some Cover) = false
-test (lists n W N) (Some (CoveredBy t)) = lists_good n (sets W) (sets N) && first_three n (sets N) (sets W) t
+test (lists n W N) (Some (CoveredBy t)) = lists_good n W N && first_three n N W t
 test (lists n W N) (Some Lists) = false
 test (lists n W N) (Some Form) = false
 test (lists n W N) (Some Memory) = false
@@ -157,22 +158,22 @@ comes (threshold n s a) (Some Lists) e = never e
 comes (threshold n s a) (Some Form) e = never e
 comes (threshold n s a) (Some Memory) e = never e
 comes (lists n W N) None e =
-    let good = lists_good n (sets W) (sets N) in
-    let g = are_good n (sets W) (sets N) (and_left good (apart n (sets N) (sets W)) e) in
+    let good = lists_good n W N in
+    let g = are_good n W N (and_left good (apart n N W) e) in
     record {
       sized = g.0;
       proper_wide = g.1;
       proper_narrow = g.2;
       nested = g.3;
-      apart = is_apart n (sets N) (sets W) (and_right good (apart n (sets N) (sets W)) e);
+      apart = is_apart n N W (and_right good (apart n N W) e);
     }
 comes (lists n W N) (Some Size) e = never e
 comes (lists n W N) (Some NarrowBeyondWide) e = never e
 comes (lists n W N) (Some Cover) e = never e
 comes (lists n W N) (Some (CoveredBy t)) e =
-    let good = lists_good n (sets W) (sets N) in
-    let g = are_good n (sets W) (sets N) (and_left good (first_three n (sets N) (sets W) t) e) in
-    (g.0, g.1, g.2, g.3, is_first_three n (sets N) (sets W) t (and_right good (first_three n (sets N) (sets W) t) e))
+    let good = lists_good n W N in
+    let g = are_good n W N (and_left good (first_three n N W t) e) in
+    (g.0, g.1, g.2, g.3, is_first_three n N W t (and_right good (first_three n N W t) e))
 comes (lists n W N) (Some Lists) e = never e
 comes (lists n W N) (Some Form) e = never e
 comes (lists n W N) (Some Memory) e = never e

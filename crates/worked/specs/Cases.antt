@@ -1,23 +1,19 @@
 -- Cases worked by hand, in one table.
-use Rattle.std.specs.Prelude.{ℕ, List, [], ◌∷◌, map, Some, None, Option}
-use Rattle.stations.specs.declared.StationSet.{StationSet}
+use Rattle.std.specs.Prelude.{ℕ, List, [], ◌∷◌, Some, None, Option}
 use Rattle.faults.specs.declared.fault.Fault.{Fault}
 use Rattle.faults.specs.declared.fault.Fault.TheVariants.{NarrowBeyondWide, Cover, CoveredBy}
 use Rattle.faults.specs.Made.{ThresholdFault, ListedFault}
 
--- What is worked: making a threshold rule of n, s and a, or a listed rule of n, the wide and the narrow sets.
+-- What is worked: making a threshold rule of n, s and a, or a listed rule of n, the wide and the narrow sets, each by
+-- its number.
 pub data Case : Type 0 where
   threshold : ℕ → ℕ → ℕ → Case
   lists : ℕ → List ℕ → List ℕ → Case
 
--- The sets with these numbers.
-abbrev pub sets : List ℕ → List StationSet
-sets numbers = map (λ x. record { bits = x }) numbers
-
 -- What the case comes to: the fault, or none where the rule is made.
 abbrev pub Comes : Case → Option Fault → Type 0
 Comes (threshold n s a) = ThresholdFault n s a
-Comes (lists n W N) = ListedFault n (sets W) (sets N)
+Comes (lists n W N) = ListedFault n W N
 
 -- The table.
 abbrev pub table : List (Case × Option Fault)

@@ -13,22 +13,16 @@ use survey::largest_sets;
 
 // The number of the refusal, or 0 where the rule is made.
 fn number<T: Drop>(made: Result<T, Fault>) -> u8 {
-    match made {
-        Ok(_) => 0,
-        Err(fault) => fault.number(),
-    }
+    made.err().map_or(0, Fault::number)
 }
 
 fn set(bits: u16) -> StationSet {
-    StationSet::from_bits(bits)
+    StationSet::from(bits)
 }
 
 // The number that reading and making a body come to.
 fn body_number(heap: Global, bytes: &[u8]) -> u8 {
-    match RuleBody::read(heap, bytes) {
-        Ok(body) => number(body.make(heap)),
-        Err(fault) => fault.number(),
-    }
+    number(RuleBody::read(heap, bytes).and_then(|body| body.make(heap)))
 }
 
 #[test]
@@ -57,27 +51,8 @@ fn thresholds_are_made_or_refused(rt: HostRuntime) {
 fn lists_are_made_or_refused(rt: HostRuntime) {
     let heap = rt.alloc();
     let one = [set(1)];
-    let eight = [
-        set(1),
-        set(2),
-        set(4),
-        set(8),
-        set(16),
-        set(32),
-        set(64),
-        set(128),
-    ];
-    let nine = [
-        set(1),
-        set(2),
-        set(4),
-        set(8),
-        set(16),
-        set(32),
-        set(64),
-        set(128),
-        set(256),
-    ];
+    let nine = [1, 2, 4, 8, 16, 32, 64, 128, 256].map(StationSet::from);
+    let eight = &nine[..8];
     assert_eq!(rt; number(Listed::new(heap, 0, &[], &[])), 1);
     assert_eq!(rt; number(Listed::new(heap, 255, &one, &one)), 1);
     assert_eq!(rt; number(Listed::new(heap, 10, &[], &one)), 4);
@@ -91,24 +66,21 @@ fn lists_are_made_or_refused(rt: HostRuntime) {
         number(Listed::new(heap, 2, &[set(1), set(3)], &[set(2), set(3)])),
         3
     );
-    assert_eq!(rt; number(Listed::new(heap, 10, &eight, &eight)), 0);
+    assert_eq!(rt; number(Listed::new(heap, 10, eight, eight)), 0);
 }
 
 #[test]
-fn the_first_three_are_named(rt: HostRuntime) -> Result<(), Fail> {
+fn the_first_three_are_named(rt: HostRuntime) {
     let wide = [set(1), set(3), set(12), set(15)];
     let narrow = [set(1), set(3)];
-    match Listed::new(rt.alloc(), 4, &wide, &narrow) {
-        Err(
-            Fault::CoveredBy(
-                Three {
-                    narrow: 0,
-                    wide: (0, 3),
-                },
-            ),
-        ) => Ok(()),
-        _ => Err(Fail::new("the first narrow set, the first wide one and the last")),
-    }
+    let three = Three {
+        narrow: 0,
+        wide: (0, 3),
+    };
+    assert_eq!(rt;
+        Listed::new(rt.alloc(), 4, &wide, &narrow).err(),
+        Some(Fault::CoveredBy(three))
+    );
 }
 
 #[test]

@@ -1,12 +1,16 @@
+use Rattle.agreement.proofs.Quorums.{closed_ignores}
+use Rattle.faults.specs.declared.rule.Sense.TheVariants.{Wide, Narrow}
 use Rattle.faults.proofs.rule.keeps_laws.Goals as goal
 
 pub returns : goal.returns
 returns g c =
-    let f = c.args.rule.now in
+    let f = g.F.FaultRule.families c.args.rule.now in
+    let l = g.met.F.FaultRule.laws c.args.rule.now in
     record {
-      wide_parts = g.met.F.FaultRule.wide_parts f;
-      narrow_parts = g.met.F.FaultRule.narrow_parts f;
-      narrow_is_wide = g.met.F.FaultRule.narrow_is_wide f;
-      empty_is_narrow = g.met.F.FaultRule.empty_is_narrow f;
-      no_cover = g.met.F.FaultRule.no_cover f;
+      sized = g.met.F.FaultRule.sized c.args.rule.now;
+      laws = l;
+      ignores_others = elim [
+        | Wide ↦ closed_ignores f.n f.wide l.wide_parts
+        | Narrow ↦ closed_ignores f.n f.narrow l.narrow_parts
+      ];
     }

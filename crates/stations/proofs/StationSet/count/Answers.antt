@@ -6,5 +6,6 @@ use Rattle.stations.proofs.StationSet.count.Goals as goal
 
 pub returns : goal.returns
 returns c =
-    let p : c.args.self.bits < 65536 = search rules in
-    ap (λ (m : ℕ). ones (bit_and c.args.self.bits m)) c.mask.ensures ∙ ones_below c.args.self.bits c.args.n p
+    let x = c.self.inside.bits in
+    let p : x < 65536 = search rules in
+    rw (← c.self.view_is) (ap (λ (m : ℕ). ones (bit_and x m)) c.mask.ensures ∙ ones_below x c.args.n p)

@@ -4,9 +4,9 @@ use Rattle.stations.proofs.StationSet.difference.Goals as goal
 
 pub returns : goal.returns
 returns c =
-    let p : c.args.self.bits < 65536 = search rules in
-    let q : c.args.other.bits < 65536 = search rules in
-    record {
-      stations = λ i j. minus_at c.args.self.bits c.args.other.bits j p q i;
-      by_both = λ i j. minus_at c.args.self.bits c.args.other.bits j p q i;
-    }
+    let x = c.self.inside.bits in
+    let y = c.other.inside.bits in
+    let p : x < 65536 = search rules in
+    let q : y < 65536 = search rules in
+    rw (← c.self.view_is, ← c.other.view_is)
+    (record { stations = λ i j. minus_at x y j p q i; by_both = λ i j. minus_at x y j p q i })

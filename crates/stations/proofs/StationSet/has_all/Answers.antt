@@ -5,12 +5,12 @@ use Rattle.stations.proofs.StationSet.has_all.Goals as goal
 
 pub returns-then-n-le16 : goal.returns-then-n-le16
 returns-then-n-le16 c =
-    let p : c.args.self.bits < 65536 = search rules in
-    ap (λ (m : ℕ). eqb (bit_and (65535 - c.args.self.bits) m) 0) c.mask.ensures
-    ∙ all_below c.args.self.bits c.args.n p (omega arith)
+    let x = c.self.inside.bits in
+    let p : x < 65536 = search rules in
+    rw (← c.self.view_is) (ap (λ (m : ℕ). eqb (bit_and (65535 - x) m) 0) c.mask.ensures ∙ all_below x c.args.n p (omega arith))
 
 pub returns-else-n-le16 : goal.returns-else-n-le16
 returns-else-n-le16 c =
-    let p : c.args.self.bits < 65536 = search rules in
+    let p : c.args.self < 65536 = search rules in
     let h : leb c.args.n 16 ≡ false = search rules in
-    h ∙ not_all c.args.self.bits c.args.n p (omega arith)
+    h ∙ not_all c.args.self c.args.n p (omega arith)

@@ -5,5 +5,6 @@ use Rattle.stations.proofs.StationSet.has_none.Goals as goal
 
 pub returns : goal.returns
 returns c =
-    let p : c.args.self.bits < 65536 = search rules in
-    ap (λ (m : ℕ). eqb (bit_and c.args.self.bits m) 0) c.mask.ensures ∙ none_below c.args.self.bits c.args.n p
+    let x = c.self.inside.bits in
+    let p : x < 65536 = search rules in
+    rw (← c.self.view_is) (ap (λ (m : ℕ). eqb (bit_and x m) 0) c.mask.ensures ∙ none_below x c.args.n p)

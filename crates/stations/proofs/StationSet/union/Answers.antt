@@ -2,4 +2,4 @@ use Rattle.agreement.proofs.Numbers.{holds_or}
 use Rattle.stations.proofs.StationSet.union.Goals as goal
 
 pub returns : goal.returns
-returns c = λ i j. holds_or c.args.self.bits c.args.other.bits j i
+returns c = rw (← c.self.view_is, ← c.other.view_is) (λ i j. holds_or c.self.inside.bits c.other.inside.bits j i)

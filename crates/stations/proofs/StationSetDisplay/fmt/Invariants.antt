@@ -8,5 +8,6 @@ use Rattle.stations.proofs.StationSetDisplay.fmt.Given as goal
 
 abbrev pub invariant-loop-station : goal.invariant-loop-station
 invariant-loop-station g l =
-    shadow (Utf8 l.comma) × (l.comma ≡ comma (listed l.station-counter (members l.self)))
-    × (IsPlainFormatter l.initial.f → HasWritten g.W.Write.write_str_gives l.initial.f (listed l.station-counter (members l.self)) l.f)
+    let text = listed l.station-counter (members l.self) in
+    shadow (Utf8 l.comma) × (l.comma ≡ comma text)
+    × (IsPlainFormatter l.initial.f → HasWritten g.W.Write.write_str_gives l.initial.f text l.f)

@@ -1,8 +1,8 @@
 use Rattle.std.proofs.Common.{rules}
-use Rattle.faults.proofs.listed.making.first_fault.Goals as goal
+use Rattle.faults.proofs.listed.Lists.check.Goals as goal
 
-pub returns : goal.returns
-returns c = record {
+pub returns-in-None : goal.returns-in-None
+returns-in-None c = record {
   sized = search rules;
   proper_wide = search rules;
   proper_narrow = search rules;
