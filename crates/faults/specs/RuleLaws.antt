@@ -1,27 +1,26 @@
 -- Proved: threshold and listed families keep the four laws, and so does what both of two rules tolerate.
-use Rattle.std.proofs.Common.{◌≡◌, ℕ, min, ap, ◌∙◌, ◌+◌, ◌*◌, ◌<◌, ◌≤◌, Bool, true, false, ◌&&◌, nat_le, nat_lt, List, length, refl, arith, ltb-true, le-leb, leb-true}
-use Rattle.agreement.specs.Sets.{Set, below, outside, tally}
+use Rattle.std.proofs.Common.{◌≡◌, ℕ, min, ◌+◌, ◌*◌, ◌<◌, ◌≤◌, false, ◌&&◌, List, length, arith}
+use Rattle.agreement.specs.Sets.{Set, below, outside}
 use Rattle.agreement.specs.Families.{Family, Families, DownwardClosed, Laws}
-use Rattle.agreement.proofs.Tests.{clash, and_left, and_right, and_both}
+use Rattle.agreement.proofs.Tests.{clash, and_both}
 use Rattle.agreement.proofs.Quorums.{closed_ignores}
-use Rattle.agreement.proofs.Sets.{tally_part, tally_cover, tally_empty, inside_part, part_inside}
+use Rattle.agreement.proofs.Sets.{tally_part, tally_cover, tally_empty, part_inside}
 use Rattle.stations.specs.declared.StationSet.{StationSet}
 use Rattle.stations.specs.Members.{members}
 use Rattle.faults.specs.Rules.{threshold, listed, both_of}
+use Rattle.faults.specs.declared.rule.Sense.{Sense}
+use Rattle.faults.specs.declared.rule.Sense.TheVariants.{Wide, Narrow}
+use Rattle.faults.specs.Senses.{family}
 use Rattle.faults.specs.Lists.{at, Nested, Apart}
-use Rattle.faults.specs.WithinLemmas.{within_at, within_some, within_parts, cover_larger}
-
-at_most_parts : (n m : ℕ) → DownwardClosed n (λ X. nat_le (tally n X) m)
-at_most_parts n m X Y p h = le-leb (tally n X) m (omega (arith, tally_part n X Y p, leb-true (tally n Y) m h))
+use Rattle.faults.specs.WithinLemmas.{within_decides, within_parts, cover_larger}
 
 pub threshold_laws : (n s a : ℕ) → a ≤ s → a + 2 * s < n → Laws (threshold n s a)
 threshold_laws n s a nested apart = record {
-  wide_parts = at_most_parts n s;
-  narrow_parts = at_most_parts n a;
-  narrow_is_wide = λ X h. le-leb (tally n X) s (omega (arith, leb-true (tally n X) a h));
-  empty_is_narrow = le-leb (tally n (λ _. false)) a (omega (arith, tally_empty n));
-  no_cover = λ X Y Z x y z c.
-      omega (arith, tally_cover n X Y Z c, leb-true (tally n X) s x, leb-true (tally n Y) s y, leb-true (tally n Z) a z);
+  wide_parts = λ X Y p h. grind (arith, tally_part n X Y p);
+  narrow_parts = λ X Y p h. grind (arith, tally_part n X Y p);
+  narrow_is_wide = λ X h. grind arith;
+  empty_is_narrow = grind (arith, tally_empty n);
+  no_cover = λ X Y Z x y z c. grind (arith, tally_cover n X Y Z c);
 }
 
 pub listed_laws : (n : ℕ) (W N : List StationSet) → 0 < length N → Nested n N W → Apart n N W → Laws (listed n W N)
@@ -29,46 +28,39 @@ listed_laws n W N some nested apart = record {
   wide_parts = within_parts n W;
   narrow_parts = within_parts n N;
   narrow_is_wide = λ X h.
-      let r = within_some n N X h in
-      let Z = members (at N r.0) in
-      within_parts n W X Z (inside_part n X Z r.2) (nested.each r.0 0 r.1);
-  empty_is_narrow =
-      within_at n N (λ _. false) 0 some
-      (part_inside n (λ _. false) (members (at N 0)) (λ j h e. absurd (clash e refl)));
+      let r = (within_decides n N X).0 h in within_parts n W X (members (at N r.0)) (r.2 0) (nested.each r.0 0 r.1);
+  empty_is_narrow = (within_decides n N (λ _. false)).1 (0, some, λ d j h e. cc);
   no_cover = λ X Y Z x y z c.
-      let i = within_some n N Z z in
-      let j = within_some n W X x in
-      let k = within_some n W Y y in
-      clash
-      (cover_larger n X Y Z (members (at W j.0)) (members (at W k.0)) (members (at N i.0)) j.2 k.2 i.2 c)
+      let i = (within_decides n N Z).0 z in
+      let j = (within_decides n W X).0 x in
+      let k = (within_decides n W Y).0 y in
+      let X' = members (at W j.0) in
+      let Y' = members (at W k.0) in
+      let Z' = members (at N i.0) in
+      clash (cover_larger n X Y Z X' Y' Z' (part_inside n X X' (j.2 0)) (part_inside n Y Y' (k.2 0)) (part_inside n Z Z' (i.2 0)) c)
       (apart.none i.0 j.0 k.0 i.1 j.1 k.1);
 }
 
 -- what a family and another, which is shown the stations below n alone, both tolerate
 pub both_parts : (n m : ℕ) (F G : Family) → DownwardClosed n F → DownwardClosed m G → DownwardClosed n (λ X. F X && G (below n X))
-both_parts n m F G f g X Y p h =
-    and_both (f X Y p (and_left (F Y) (G (below n Y)) h))
-    (g (below n X) (below n Y) (λ j _ e. narrowed j (nat_lt j n) refl e) (and_right (F Y) (G (below n Y)) h))
-  where
-    narrowed : (j : ℕ) (b : Bool) → nat_lt j n ≡ b → (b && X j) ≡ true → (b && Y j) ≡ true
-    narrowed j true e h = p j (ltb-true j n e) h
-    narrowed j false e h = absurd (clash h refl)
+both_parts n m F G f g X Y p h = grind (arith, f X Y p, g (below n X) (below n Y) (λ j _ e. grind (arith, p j)))
 
 pub both_laws : (f g : Families) → Laws f → Laws g → Laws (both_of f g)
 both_laws f g p q = record {
   wide_parts = both_parts f.n g.n f.wide g.wide p.wide_parts q.wide_parts;
   narrow_parts = both_parts f.n g.n f.narrow g.narrow p.narrow_parts q.narrow_parts;
-  narrow_is_wide = λ X h.
-      and_both (p.narrow_is_wide X (and_left (f.narrow X) (g.narrow (below f.n X)) h))
-      (q.narrow_is_wide (below f.n X) (and_right (f.narrow X) (g.narrow (below f.n X)) h));
+  narrow_is_wide = λ X h. grind (arith, p.narrow_is_wide X, q.narrow_is_wide (below f.n X));
   empty_is_narrow =
       and_both p.empty_is_narrow
-      (q.narrow_parts (below f.n (λ _. false)) (λ _. false) (λ j h e. and_right (nat_lt j f.n) false e) q.empty_is_narrow);
-  no_cover = λ X Y Z x y z c. p.no_cover X Y Z (and_left (f.wide X) _ x) (and_left (f.wide Y) _ y) (and_left (f.narrow Z) _ z) c;
+      (q.narrow_parts (below f.n (λ _. false)) (λ _. false) (λ j h e. grind arith) q.empty_is_narrow);
+  no_cover = λ X Y Z x y z c. p.no_cover X Y Z (grind arith) (grind arith) (grind arith) c;
 }
 
 -- whether the stations of the rule outside a set are wide-tolerable
 pub wide_of_others : (f : Families) (X : Set) → Laws f → f.n ≤ 10 → f.wide (below (min f.n 16) (outside X)) ≡ f.wide (outside X)
-wide_of_others f X l h =
-    let n : min f.n 16 ≡ f.n = omega (arith, h) in
-    ap (λ (k : ℕ). f.wide (below k (outside X))) n ∙ closed_ignores f.n f.wide l.wide_parts (outside X)
+wide_of_others f X l h = let n : min f.n 16 ≡ f.n = omega arith in rw n (closed_ignores f.n f.wide l.wide_parts (outside X))
+
+-- the family of either sense has every part of its sets
+pub sense_parts : (f : Families) → Laws f → (sense : Sense) → DownwardClosed f.n (family f sense)
+sense_parts f l Wide = l.wide_parts
+sense_parts f l Narrow = l.narrow_parts

@@ -7,7 +7,6 @@ pub mod fault;
 pub mod listed;
 pub mod rule;
 pub mod size;
+pub mod threshold;
 
 pub use stations::StationSet;
-
-pub mod threshold;

@@ -1,5 +1,6 @@
 use Rattle.agreement.proofs.Quorums.{closed_ignores}
-use Rattle.faults.specs.declared.rule.Sense.TheVariants.{Wide, Narrow}
+use Rattle.faults.specs.Senses.{family}
+use Rattle.faults.specs.RuleLaws.{sense_parts}
 use Rattle.faults.proofs.rule.keeps_laws.Goals as goal
 
 pub returns : goal.returns
@@ -9,8 +10,5 @@ returns g c =
     record {
       sized = g.met.F.FaultRule.sized c.args.rule.now;
       laws = l;
-      ignores_others = elim [
-        | Wide ↦ closed_ignores f.n f.wide l.wide_parts
-        | Narrow ↦ closed_ignores f.n f.narrow l.narrow_parts
-      ];
+      ignores_others = λ s. closed_ignores f.n (family f s) (sense_parts f l s);
     }

@@ -1,7 +1,6 @@
-use Rattle.std.proofs.Common.{min, ap, ◌∙◌}
-use Rattle.agreement.specs.Sets.{holds}
+use Rattle.std.proofs.Common.{rules}
 use Rattle.agreement.proofs.Numbers.{holds_first}
 use Rattle.stations.proofs.StationSet.all.Goals as goal
 
 pub returns : goal.returns
-returns c = ap holds c.mask.ensures ∙ (λ i j. holds_first (min c.args.n 16) j i)
+returns c = search (rules, holds_first)

@@ -1,5 +1,0 @@
-use Rattle.worked.proofs.Tested.{worked}
-use Rattle.worked.proofs.worked_cases.Goals as goal
-
-pub returns : goal.returns
-returns c = worked
