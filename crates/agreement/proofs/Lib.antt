@@ -2,7 +2,6 @@ pub mod Tests
 pub mod Sets
 pub mod Numbers
 pub mod Quorums
-pub mod Places
 pub mod Closing
 pub mod Own
 pub mod Facts

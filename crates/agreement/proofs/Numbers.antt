@@ -22,17 +22,6 @@ pub holds_empty : (j : ℕ) → holds 0 j ≡ false
 holds_empty zero = refl
 holds_empty (suc j) = holds_empty j
 
-odd_same : (a b : ℕ) → a < 2 → b < 2 → eqb a 1 ≡ eqb b 1 → a ≡ b
-odd_same a b p q e = grind arith
-
--- a number is given by its stations
-pub same_number : (w x y : ℕ) → x < 2 ^ w → y < 2 ^ w → ((j : ℕ) → j < w → holds x j ≡ holds y j) → x ≡ y
-same_number zero x y p q e = omega arith
-same_number (suc w) x y p q e =
-    let k : x / 2 ≡ y / 2 = same_number w (x / 2) (y / 2) (omega arith) (omega arith) (λ j h. e (suc j) (omega arith)) in
-    let o : x % 2 ≡ y % 2 = odd_same (x % 2) (y % 2) (omega arith) (omega arith) (e 0 (omega arith)) in
-    omega arith
-
 bit_max : (a b : ℕ) → a < 2 → b < 2 → eqb (max a b) 1 ≡ (eqb a 1 || eqb b 1)
 bit_max a b p q = grind arith
 

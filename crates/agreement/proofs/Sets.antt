@@ -1,5 +1,5 @@
 -- Tests over all stations below n.
-use Rattle.std.proofs.Common.{◌≡◌, ℕ, zero, suc, ◌+◌, ◌<◌, ◌≤◌, Bool, true, false, cond, ◌||◌, eqb, ◌⊎◌, sym, refl, ap, subst, inl, inr, arith, eqb-true}
+use Rattle.std.proofs.Common.{◌≡◌, ℕ, zero, suc, ◌+◌, ◌<◌, ◌≤◌, Bool, true, false, cond, ◌||◌, eqb, ◌⊎◌, sym, refl, subst, inl, inr, arith, eqb-true}
 use borrow.Author.Tests.{eqb-false}
 use Rattle.agreement.specs.Sets.{Set, every, tally, outside, without, inside, Part, Cover, Some}
 use Rattle.agreement.proofs.Tests.{true_or_false, and_left, and_right, and_both, implied, implies}
@@ -48,13 +48,6 @@ tally_part (suc n) X Y p =
     no_more : (a b : Bool) → (a ≡ true → b ≡ true) → cond a 1 0 ≤ cond b 1 0
     no_more true b q = rw (q refl) (omega arith)
     no_more false b q = omega arith
-
-pub tally_same : (n : ℕ) (X Y : Set) → ((j : ℕ) → j < n → X j ≡ Y j) → tally n X ≡ tally n Y
-tally_same zero X Y e = refl
-tally_same (suc n) X Y e =
-    let k = tally_same n X Y (λ j h. e j (omega arith)) in
-    let m : ◌≡◌ {A = ℕ} (cond (X n) 1 0) (cond (Y n) 1 0) = ap (λ (b : Bool). cond b 1 0) (e n (omega arith)) in
-    omega arith
 
 pub tally_empty : (n : ℕ) → tally n (λ _. false) ≡ 0
 tally_empty zero = refl

@@ -33,10 +33,6 @@ pub or_right : (a b : Bool) → b ≡ true → (a || b) ≡ true
 or_right true b p = refl
 or_right false b p = p
 
--- the second holds where the first does not
-pub or_rest : (a b : Bool) → a ≡ false → (a || b) ≡ true → b ≡ true
-or_rest a b p q = grind arith
-
 -- `not (a && not b)` says that b holds where a does
 pub implied : (a b : Bool) → not (a && not b) ≡ true → a ≡ true → b ≡ true
 implied a b e h = grind arith

@@ -9,5 +9,6 @@ pub struct Message {
     // A number and no enum: a guest may send any byte as a kind, and it travels as it was sent.
     pub kind: u8,
     pub stage: u8,
+    // A number and no `Option` of a bit: a guest may send any byte as a value too.
     pub value: u8,
 }

@@ -1,8 +1,8 @@
 -- Proved: threshold and listed families keep the four laws, and so does what both of two rules tolerate.
-use Rattle.std.proofs.Common.{◌≡◌, ℕ, min, ◌+◌, ◌*◌, ◌<◌, ◌≤◌, false, ◌&&◌, List, length, arith}
-use Rattle.agreement.specs.Sets.{Set, below, outside}
+use Rattle.std.proofs.Common.{◌≡◌, ℕ, min, ◌+◌, ◌*◌, ◌<◌, ◌≤◌, Bool, true, false, ◌&&◌, nat_le, nat_lt, List, length, refl, arith, ltb-true, le-leb, leb-true}
+use Rattle.agreement.specs.Sets.{Set, below, outside, tally}
 use Rattle.agreement.specs.Families.{Family, Families, DownwardClosed, Laws}
-use Rattle.agreement.proofs.Tests.{clash, and_both}
+use Rattle.agreement.proofs.Tests.{clash, and_left, and_right, and_both}
 use Rattle.agreement.proofs.Quorums.{closed_ignores}
 use Rattle.agreement.proofs.Sets.{tally_part, tally_cover, tally_empty, part_inside}
 use Rattle.stations.specs.declared.StationSet.{StationSet}
@@ -14,13 +14,17 @@ use Rattle.faults.specs.Senses.{family}
 use Rattle.faults.specs.Lists.{at, Nested, Apart}
 use Rattle.faults.specs.WithinLemmas.{within_decides, within_parts, cover_larger}
 
+at_most_parts : (n m : ℕ) → DownwardClosed n (λ X. nat_le (tally n X) m)
+at_most_parts n m X Y p h = le-leb (tally n X) m (omega (arith, tally_part n X Y p, leb-true (tally n Y) m h))
+
 pub threshold_laws : (n s a : ℕ) → a ≤ s → a + 2 * s < n → Laws (threshold n s a)
 threshold_laws n s a nested apart = record {
-  wide_parts = λ X Y p h. grind (arith, tally_part n X Y p);
-  narrow_parts = λ X Y p h. grind (arith, tally_part n X Y p);
-  narrow_is_wide = λ X h. grind arith;
-  empty_is_narrow = grind (arith, tally_empty n);
-  no_cover = λ X Y Z x y z c. grind (arith, tally_cover n X Y Z c);
+  wide_parts = at_most_parts n s;
+  narrow_parts = at_most_parts n a;
+  narrow_is_wide = λ X h. le-leb (tally n X) s (omega (arith, leb-true (tally n X) a h));
+  empty_is_narrow = le-leb (tally n (λ _. false)) a (omega (arith, tally_empty n));
+  no_cover = λ X Y Z x y z c.
+      omega (arith, tally_cover n X Y Z c, leb-true (tally n X) s x, leb-true (tally n Y) s y, leb-true (tally n Z) a z);
 }
 
 pub listed_laws : (n : ℕ) (W N : List StationSet) → 0 < length N → Nested n N W → Apart n N W → Laws (listed n W N)
@@ -43,17 +47,25 @@ listed_laws n W N some nested apart = record {
 
 -- what a family and another, which is shown the stations below n alone, both tolerate
 pub both_parts : (n m : ℕ) (F G : Family) → DownwardClosed n F → DownwardClosed m G → DownwardClosed n (λ X. F X && G (below n X))
-both_parts n m F G f g X Y p h = grind (arith, f X Y p, g (below n X) (below n Y) (λ j _ e. grind (arith, p j)))
+both_parts n m F G f g X Y p h =
+    and_both (f X Y p (and_left (F Y) (G (below n Y)) h))
+    (g (below n X) (below n Y) (λ j _ e. narrowed j (nat_lt j n) refl e) (and_right (F Y) (G (below n Y)) h))
+  where
+    narrowed : (j : ℕ) (b : Bool) → nat_lt j n ≡ b → (b && X j) ≡ true → (b && Y j) ≡ true
+    narrowed j true e h = p j (ltb-true j n e) h
+    narrowed j false e h = absurd (clash h refl)
 
 pub both_laws : (f g : Families) → Laws f → Laws g → Laws (both_of f g)
 both_laws f g p q = record {
   wide_parts = both_parts f.n g.n f.wide g.wide p.wide_parts q.wide_parts;
   narrow_parts = both_parts f.n g.n f.narrow g.narrow p.narrow_parts q.narrow_parts;
-  narrow_is_wide = λ X h. grind (arith, p.narrow_is_wide X, q.narrow_is_wide (below f.n X));
+  narrow_is_wide = λ X h.
+      and_both (p.narrow_is_wide X (and_left (f.narrow X) (g.narrow (below f.n X)) h))
+      (q.narrow_is_wide (below f.n X) (and_right (f.narrow X) (g.narrow (below f.n X)) h));
   empty_is_narrow =
       and_both p.empty_is_narrow
-      (q.narrow_parts (below f.n (λ _. false)) (λ _. false) (λ j h e. grind arith) q.empty_is_narrow);
-  no_cover = λ X Y Z x y z c. p.no_cover X Y Z (grind arith) (grind arith) (grind arith) c;
+      (q.narrow_parts (below f.n (λ _. false)) (λ _. false) (λ j h e. and_right (nat_lt j f.n) false e) q.empty_is_narrow);
+  no_cover = λ X Y Z x y z c. p.no_cover X Y Z (and_left (f.wide X) _ x) (and_left (f.wide Y) _ y) (and_left (f.narrow Z) _ z) c;
 }
 
 -- whether the stations of the rule outside a set are wide-tolerable

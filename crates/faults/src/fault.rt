@@ -36,7 +36,8 @@ pub enum Fault {
 }
 
 impl Fault {
-    /// The number by which the fault is reported. A method and no `From`: a call says what the number is.
+    // A method and no `From`: `fault.number()` says what the number is, `u8::from(fault)` doesn't.
+    /// The number by which the fault is reported.
     pub fn number(self) -> u8
         ensures { result ≡ number self }
     {
@@ -51,8 +52,7 @@ impl Fault {
     }
 }
 
-// These three by hand: what the crate thiserror writes has no contract.
-
+// By hand, as the `From` below: what the crate thiserror writes has no contract.
 /// The reason in words, with no full stop.
 impl fmt::Display for Fault {
     ghost output = { λ f. Some (reason f) };
@@ -74,6 +74,7 @@ impl fmt::Display for Fault {
 
 impl Error for Fault {}
 
+// By hand, for the contract.
 impl From<AllocError> for Fault {
     ghost from_gives = { λ _ r. r ≡ Memory };
 

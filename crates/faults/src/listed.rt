@@ -1,6 +1,6 @@
 //! Fault rules by lists of sets.
 
-ghost use Rattle.std.specs.Prelude.{◌≡◌, ◌<◌, ◌≤◌, ◌↔◌, length, IsTrue};
+ghost use Rattle.std.specs.Prelude.{◌≡◌, ◌<◌, ◌↔◌, length, IsTrue};
 ghost use Rattle.stations.specs.Members.{members};
 ghost use Rattle.faults.specs.Rules.{within};
 ghost use Rattle.faults.specs.Lists.{Proper, Nested, Apart, CoverFound};
@@ -22,7 +22,8 @@ pub struct Listed {
     ghost apart: { Apart size.n narrow.items wide.items },
 }
 
-// The two lists of a rule that is to be made, and its size.
+// The two lists of a rule that is to be made, and its size. Not one type with `Listed`: these are borrowed, and may have
+// any fault.
 #[derive(Clone, Copy)]
 struct Lists<'a> {
     size: RuleSize,
@@ -56,8 +57,8 @@ impl Lists<'_> {
             .all(|set| lies_within(*set, self.wide, self.size))
     }
 
-    // The first narrow and two wide sets, by place, that together hold every station. The project wants such a search
-    // nested, over entries with their places, and left by its label; as three closures in one another it is no plainer.
+    // The first narrow and two wide sets, by place, that together hold every station. The search is nested and left by its
+    // label, as the project asks (docs/DECISIONS.md, Forms); as three closures in one another it is no plainer.
     fn first_cover(&self) -> Option<Three>
         ensures { CoverFound self.now.size.n self.now.narrow.now self.now.wide.now result }
     {
@@ -96,6 +97,7 @@ impl Lists<'_> {
 impl Listed {
     ghost use Rattle.faults.specs.Made.{ListedMade};
 
+    // Size and lists, as a caller has them; together they stand in a case of `RuleBody`, in a crate above this one.
     /// The rule of n stations that tolerates what lies inside a set of the wide list, and in the narrow
     /// sense what lies inside a set of the narrow list.
     pub fn new(
@@ -120,7 +122,7 @@ impl FaultRule for Listed {
 
     ghost families = { λ t. listed t.size.n t.wide.items t.narrow.items };
 
-    ghost sized = { λ t. (t.size.low, t.size.high) };
+    ghost sized = { λ t. t.size.sized };
 
     ghost laws = { λ t. listed_laws t.size.n t.wide.items t.narrow.items t.some t.nested t.apart };
 
@@ -129,6 +131,7 @@ impl FaultRule for Listed {
     }
 
     fn tolerates(&self, sense: Sense, x: StationSet) -> bool {
+        // A match says which is which; a helper with two arguments of one type would not.
         let list = match sense {
             Sense::Wide => self.wide.as_slice(),
             Sense::Narrow => self.narrow.as_slice(),

@@ -1,6 +1,6 @@
 //! How many stations a rule has.
 
-ghost use Rattle.std.specs.Prelude.{◌≤◌};
+ghost use Rattle.faults.specs.Sizes.{Sized};
 
 use crate::fault::Fault;
 
@@ -8,8 +8,7 @@ use crate::fault::Fault;
 #[derive(Clone, Copy, Debug, PartialEq, Eq)]
 pub struct RuleSize {
     pub n: u8,
-    ghost low: { 1 ≤ n },
-    ghost high: { n ≤ 10 },
+    ghost sized: { Sized n },
 }
 
 /// This many stations, if a rule can have so many.

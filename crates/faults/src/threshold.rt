@@ -20,6 +20,7 @@ pub struct Threshold {
 impl Threshold {
     ghost use Rattle.faults.specs.Made.{ThresholdMade};
 
+    // Three numbers, as a caller has them; together they stand in a case of `RuleBody`, in a crate above this one.
     /// The rule of n stations that tolerates at most s guests in the wide sense and at most a in the narrow one.
     pub fn new(n: u8, s: u8, a: u8) -> Result<Threshold, Fault>
         ensures { ThresholdMade n s a result }
@@ -41,7 +42,7 @@ impl FaultRule for Threshold {
 
     ghost families = { λ t. threshold t.size.n t.s t.a };
 
-    ghost sized = { λ t. (t.size.low, t.size.high) };
+    ghost sized = { λ t. t.size.sized };
 
     ghost laws = { λ t. threshold_laws t.size.n t.s t.a t.nested t.apart };
 
@@ -50,6 +51,7 @@ impl FaultRule for Threshold {
     }
 
     fn tolerates(&self, sense: Sense, x: StationSet) -> bool {
+        // A match says which is which; a helper with two arguments of one type would not.
         let most = match sense {
             Sense::Wide => self.s,
             Sense::Narrow => self.a,

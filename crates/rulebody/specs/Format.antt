@@ -1,5 +1,5 @@
 -- The format of a rule body.
-use Rattle.std.specs.Prelude.{◌≡◌, ℕ, ◌+◌, ◌*◌, ◌<◌, ◌≤◌, List, [], ◌∷◌, length, slice_index}
+use Rattle.std.specs.Prelude.{◌≡◌, ℕ, ◌+◌, ◌*◌, ◌<◌, ◌≤◌, List, [], ◌%◌, length, slice_index, slice_index_or}
 use Rattle.stations.specs.declared.StationSet.{StationSet}
 use Rattle.faults.specs.Lists.{at}
 
@@ -22,11 +22,14 @@ IsListed bytes =
     (4 ≤ length bytes) × (byte bytes 0 ≡ 2) × (length bytes ≡ 4 + 2 * (byte bytes 2 + byte bytes 3))
     × ((k : ℕ) → k < byte bytes 2 + byte bytes 3 → word bytes (4 + 2 * k) < 1024)
 
--- The two-byte numbers in a row.
-abbrev pub words : List ℕ → List ℕ
-words [] = []
-words (a ∷ []) = []
-words (a ∷ b ∷ bytes) = (a + 256 * b) ∷ words bytes
+-- An odd number of bytes.
+abbrev pub IsOdd : ℕ → Type 0
+IsOdd n = n % 2 ≡ 1
+
+-- The pairs are the bytes two by two.
+abbrev pub ArePairs : List (List ℕ) → List ℕ → Type 0
+ArePairs pairs bytes =
+    (length bytes ≡ 2 * length pairs) × ((i : ℕ) → i < length pairs → word (slice_index_or pairs i []) 0 ≡ word bytes (2 * i))
 
 -- The list has the sets that stand from a place on.
 abbrev pub SetsAt : List ℕ → ℕ → ℕ → List StationSet → Type 0

@@ -7,8 +7,8 @@ use Rattle.rulebody.specs.declared.rule.Rule.TheVariants.{Threshold, Listed}
 use Rattle.rulebody.specs.Kinds.{meant}
 
 pub sized : (r : Rule) → Sized (meant r).n
-sized (Threshold t) = (t.size.low, t.size.high)
-sized (Listed t) = (t.size.low, t.size.high)
+sized (Threshold t) = t.size.sized
+sized (Listed t) = t.size.sized
 
 pub laws : (r : Rule) → Laws (meant r)
 laws (Threshold t) = threshold_laws t.size.n t.s t.a t.nested t.apart

@@ -1,5 +1,5 @@
 -- What making the rule of a body answers.
-use Rattle.std.specs.Prelude.{ℕ, List, Ok, Err, vec_items, Result}
+use Rattle.std.specs.Prelude.{ℕ, List, Ok, Err, Result}
 use Rattle.stations.specs.declared.StationSet.{StationSet}
 use Rattle.faults.specs.declared.fault.Fault.{Fault}
 use Rattle.faults.specs.Made.{ThresholdMade, ListedMade}
@@ -23,4 +23,4 @@ ByLists n W N (Err e) = ListedMade n W N (Err e)
 -- Making answers what making the rule that the body says answers.
 abbrev pub BodyMade : RuleBody → Result Rule Fault → Type 0
 BodyMade (ThresholdBody n s a) = ByThreshold n s a
-BodyMade (ListedBody n wide narrow) = ByLists n (vec_items wide) (vec_items narrow)
+BodyMade (ListedBody n wide narrow) = ByLists n wide.items narrow.items

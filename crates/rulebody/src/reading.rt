@@ -1,7 +1,7 @@
 //! Reading a rule body.
 
-ghost use Rattle.std.specs.Prelude.{◌≡◌, ◌<◌, ◌↔◌, length, All, IsTrue, MatchResult};
-ghost use Rattle.rulebody.specs.Format.{word, words};
+ghost use Rattle.std.specs.Prelude.{◌≡◌, ◌<◌, ◌↔◌, length, map, All, IsTrue, MatchOption, MatchResult};
+ghost use Rattle.rulebody.specs.Format.{word, IsOdd, ArePairs};
 ghost use Rattle.rulebody.specs.Bodies.{BodyRead, ListsRead};
 
 use crate::body::RuleBody;
@@ -9,56 +9,63 @@ use faults::fault::Fault;
 use stations::StationSet;
 use std::alloc::{AllocError, Global};
 
-// The first byte of a body, of a rule by numbers or by lists. No enum: a pattern that names the byte is plainer than one
-// that is read first and matched then.
+// The first byte of a body, of a rule by numbers or by lists. No enum: a pattern with the byte's name reads and tells it in
+// one step.
 const THRESHOLD: u8 = 1;
 
 const LISTED: u8 = 2;
 
+// The bytes two by two, if none is left over.
+fn pairs(bytes: &[u8]) -> Option<&[[u8; 2]]>
+    ensures { MatchOption result (IsOdd (length bytes.now)) (λ p. ArePairs p.now bytes.now) }
+{
+    let (pairs, rest) = bytes.as_chunks();
+    rest.is_empty().then_some(pairs)
+}
+
 // The number that two bytes say, low byte first.
-fn number(pair: &[u8]) -> u16
-    requires { length pair.now ≡ 2 }
-    ensures { result ≡ word pair.now 0 }
+fn number(pair: [u8; 2]) -> u16
+    ensures { result ≡ word pair 0 }
 {
-    u16::from_le_bytes([pair[0], pair[1]])
+    u16::from_le_bytes(pair)
 }
 
-// Whether two bytes say a number with no bit above 9.
-fn is_low(pair: &[u8]) -> bool
-    requires { length pair.now ≡ 2 }
-    ensures { IsTrue result ↔ (word pair.now 0 < 1024) }
+// Whether none of the numbers has a bit above 9.
+fn are_low(pairs: &[[u8; 2]]) -> bool
+    ensures { IsTrue result ↔ All (λ p. word p 0 < 1024) pairs.now }
 {
-    number(pair) < 1024
+    pairs.iter().all(|pair| number(*pair) < 1024)
 }
 
-// Whether none of the sets in the bytes has a bit above 9.
-fn are_low(sets: &[u8]) -> bool
-    ensures { IsTrue result ↔ All (λ x. x < 1024) (words sets.now) }
-{
-    sets.chunks_exact(2).all(is_low)
-}
-
-// The sets in the bytes.
-fn read_sets(heap: Global, sets: &[u8]) -> Result<Vec<StationSet>, AllocError>
-    ensures { MatchResult result (λ v. v.items ≡ words sets.now) (λ _. 1 < length sets.now) }
+// The sets with these numbers.
+fn read_sets(heap: Global, pairs: &[[u8; 2]]) -> Result<Vec<StationSet>, AllocError>
+    ensures { MatchResult result (λ v. v.items ≡ map (λ p. word p 0) pairs.now) (λ _. 0 < length pairs.now) }
 {
     // No `collect`: its contract doesn't say that it succeeds where nothing is to be kept.
     let mut list = Vec::new(heap);
-    for pair in sets.chunks_exact(2) {
-        list.push(StationSet::from(number(pair)))?;
+    for pair in pairs {
+        list.push(StationSet::from(number(*pair)))?;
     }
     Ok(list)
 }
 
-// The body with these sets after its first four bytes.
-fn read_lists(heap: Global, n: u8, wide: u8, narrow: u8, sets: &[u8]) -> Result<RuleBody, Fault>
-    ensures { ListsRead n wide narrow sets.now result }
+// The listed rule of n stations with these sets, first the wide ones, if they are as many as both counts say and none has
+// a bit above 9.
+fn read_lists(
+    heap: Global,
+    n: u8,
+    wide: u8,
+    narrow: u8,
+    pairs: &[[u8; 2]],
+) -> Result<RuleBody, Fault>
+    ensures { ListsRead n wide narrow pairs.now result }
 {
-    let middle = 2 * wide as usize;
-    if sets.len() != middle + 2 * narrow as usize || !are_low(sets) {
+    // Both counts are beside the bytes, as the format has them.
+    let middle = wide as usize;
+    if pairs.len() != middle + narrow as usize || !are_low(pairs) {
         return Err(Fault::Form);
     }
-    let (wide, narrow) = sets.split_at(middle);
+    let (wide, narrow) = pairs.split_at(middle);
     let wide = read_sets(heap, wide)?;
     let narrow = read_sets(heap, narrow)?;
     Ok(RuleBody::Listed { n, wide, narrow })
@@ -75,7 +82,10 @@ impl RuleBody {
                 s: *s,
                 a: *a,
             }),
-            [LISTED, n, wide, narrow, sets @ ..] => read_lists(heap, *n, *wide, *narrow, sets),
+            [LISTED, n, wide, narrow, sets @ ..] => {
+                let pairs = pairs(sets).ok_or(Fault::Form)?;
+                read_lists(heap, *n, *wide, *narrow, pairs)
+            }
             _ => Err(Fault::Form),
         }
     }

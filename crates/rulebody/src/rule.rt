@@ -23,7 +23,7 @@ impl FaultRule for Rule {
 
     ghost laws = { laws };
 
-    // Each kind is asked by name: `make` may not hand out a boxed rule, so the kinds stand in an enum.
+    // Each kind is asked by name, and no dyn: the gate refuses a function that hands one out, as `make` would.
     fn size(&self) -> u8 {
         match self {
             Rule::Threshold(rule) => rule.size(),

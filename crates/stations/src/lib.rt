@@ -2,7 +2,7 @@
 
 #![tactic(auto)]
 
-ghost use Rattle.std.specs.Prelude.{◌≡◌, ℕ, ◌-◌, ◌^◌, ◌<◌, min, ◌++◌, if◌then◌else◌, Some, codes, nat_le, nat_lt};
+ghost use Rattle.std.specs.Prelude.{◌≡◌, ◌-◌, ◌^◌, ◌<◌, min, ◌++◌, if◌then◌else◌, Some, codes, nat_le, nat_lt};
 ghost use Rattle.agreement.specs.Sets.{up_to, both, below, outside, without, either, only, inside, every, covers, tally};
 ghost use Rattle.stations.specs.Members.{members};
 ghost use Rattle.stations.specs.Text.{listed};
@@ -18,7 +18,7 @@ pub struct StationSet {
 
 /// Clauses see a set as its number, and its stations by `members`.
 impl Model for StationSet {
-    ghost use Rattle.std.specs.Prelude.{ℕ, ◌<◌};
+    ghost use Rattle.std.specs.Prelude.{ℕ};
 
     ghost Value = { ℕ };
 
@@ -104,6 +104,7 @@ impl StationSet {
         x.union(y.union(z)).has_all(n)
     }
 
+    // Below 16, here and in `single`: the public functions take any byte, so a type for it would serve these two alone.
     fn digit(self, station: u8) -> bool
         requires { station < 16 }
         ensures { result ≡ members self station }

@@ -19,7 +19,7 @@ struct Family<'a, F: FaultRule> {
 }
 
 impl<F: FaultRule> Family<'_, F> {
-    // Whether x has the station, or is not tolerable with it.
+    // Whether x has the station, or is not tolerable with it. Of stations from 16 on nothing is said: `with` adds none.
     fn cannot_gain(&self, x: StationSet, station: u8) -> bool
         ensures { station < 16
             → result ≡ cannot_gain (F.FaultRule.families self.now.rule.now) self.now.sense (members x) station }
@@ -47,13 +47,14 @@ impl<F: FaultRule> Family<'_, F> {
             (λ x. maximal (F.FaultRule.families self.now.rule.now) self.now.sense (members x))
             (range_with_len 0 (2 ^ (F.FaultRule.families self.now.rule.now).n))) }
     {
-        (0..1 << self.rule.size())
+        (0..1u16 << self.rule.size())
             .map(StationSet::from)
             .filter(|x| self.is_maximal(*x))
             .collect(heap)
     }
 }
 
+// The rule and the sense, as a caller has them: `Family` is for the search alone.
 /// The largest sets that a rule tolerates in one sense: those that no tolerable set properly contains,
 /// each once, in ascending order of their numbers.
 #[tactic(auto, using(crate::proofs::Listing::all_largest))]

@@ -29,6 +29,7 @@ impl fmt::Display for Told<'_> {
     }
 }
 
+// Not one type with `Largest`: each says another thing of its sets, and shows them in another way.
 /// Which guests a list tolerates in a sense.
 #[derive(Clone, Copy)]
 pub(crate) struct Parts<'a> {
@@ -45,7 +46,7 @@ impl fmt::Display for Parts<'_> {
         for set in self.list {
             write!(f, " {set}")?;
         }
-        writeln!(f, "")
+        writeln!(f)
     }
 }
 
@@ -63,7 +64,7 @@ impl fmt::Display for Largest<'_> {
             Sense::Wide =>
                 "Wide guests: with them own stations that open alike must decide as they opened.",
         };
-        writeln!(f, "")?;
+        writeln!(f)?;
         writeln!(f, "{meaning}")?;
         writeln!(
             f,

@@ -11,7 +11,7 @@ use std::alloc::Global;
 use std::test::Fail;
 use survey::largest_sets;
 
-// The number of the refusal, or 0 where the rule is made.
+// The number of the refusal, or 0 where the rule is made. No `Option`: the tables keep the values that they had.
 fn number<T: Drop>(made: Result<T, Fault>) -> u8 {
     made.err().map_or(0, Fault::number)
 }
