@@ -10,7 +10,7 @@ use survey::largest_sets;
 
 mod words;
 
-use crate::words::{Cover, Largest, Refusal, Told};
+use crate::words::{Body, Cover, Largest, Refusal};
 
 #[cfg(test)]
 mod tests;
@@ -33,7 +33,7 @@ fn report(heap: Global, bytes: &[u8]) -> Result<String, AllocError> {
 
 // The rule in words, then the guests that it tolerates or why it is refused.
 fn report_body(heap: Global, body: &RuleBody) -> Result<String, AllocError> {
-    let mut text = format!(in heap; "{}", Told(body))?;
+    let mut text = format!(in heap; "{}", Body(body))?;
     match body.make(heap) {
         Ok(rule) => {
             for sense in [Sense::Narrow, Sense::Wide] {

@@ -8,9 +8,9 @@ use std::fmt;
 
 /// What a body says.
 #[derive(Clone, Copy)]
-pub(crate) struct Told<'a>(pub(crate) &'a RuleBody);
+pub(crate) struct Body<'a>(pub(crate) &'a RuleBody);
 
-impl fmt::Display for Told<'_> {
+impl fmt::Display for Body<'_> {
     fn fmt<W: fmt::Write>(&self, f: &mut fmt::Formatter<W>) -> fmt::Result {
         match self.0 {
             RuleBody::Threshold { n, s, a } => {
@@ -20,8 +20,8 @@ impl fmt::Display for Told<'_> {
             }
             RuleBody::Listed { n, wide, narrow } => {
                 writeln!(f, "Listed rule; stations: {n}")?;
-                for (sense, list) in [(Sense::Wide, wide), (Sense::Narrow, narrow)] {
-                    write!(f, "{}", Parts { sense, list })?;
+                for (sense, sets) in [(Sense::Wide, wide), (Sense::Narrow, narrow)] {
+                    write!(f, "{}", List { sense, sets })?;
                 }
                 Ok(())
             }
@@ -32,18 +32,18 @@ impl fmt::Display for Told<'_> {
 // Not one type with `Largest`: each says another thing of its sets, and shows them in another way.
 /// Which guests a list tolerates in a sense.
 #[derive(Clone, Copy)]
-pub(crate) struct Parts<'a> {
+pub(crate) struct List<'a> {
     pub(crate) sense: Sense,
-    pub(crate) list: &'a [StationSet],
+    pub(crate) sets: &'a [StationSet],
 }
 
-impl fmt::Display for Parts<'_> {
+impl fmt::Display for List<'_> {
     fn fmt<W: fmt::Write>(&self, f: &mut fmt::Formatter<W>) -> fmt::Result {
         write!(f, "  {} guests: any part of one of", self.sense)?;
-        if self.list.is_empty() {
+        if self.sets.is_empty() {
             write!(f, " no sets")?;
         }
-        for set in self.list {
+        for set in self.sets {
             write!(f, " {set}")?;
         }
         writeln!(f)
