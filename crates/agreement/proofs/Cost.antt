@@ -1,11 +1,12 @@
 -- How much turns can post: what each own station says is counted in what it did, and that is bounded.
-use Rattle.std.proofs.Common.{◌≡◌, ℕ, zero, suc, ◌+◌, ◌*◌, ◌%◌, ◌^◌, ◌<◌, ◌≤◌, Bool, true, false, cond, ◌&&◌, ◌||◌, eqb, Some as some, None as none, Option, sym, refl, ap, ◌∙◌, subst, inl, inr, mul_assoc, mul-le-mul_left, pow-suc, arith}
+use Rattle.std.proofs.Common.{◌≡◌, ℕ, zero, suc, ◌+◌, ◌*◌, ◌%◌, ◌^◌, ◌<◌, ◌≤◌, Bool, true, false, cond, if◌then◌else◌, ◌&&◌, ◌||◌, eqb, Some as some, None as none, Option, option_map, is_none, sym, refl, ap, ◌∙◌, subst, inl, inr, mul_assoc, mul-le-mul_left, pow-suc, arith}
+use Rattle.std.specs.Option.{option_or}
 use native.Mathlib.Nat.{pow-zero}
 use Rattle.agreement.specs.declared.message.Message.{Message}
 use Rattle.agreement.specs.Messages.{Payload, propose, commit}
-use Rattle.agreement.specs.Station.{Setting, size, stages, Own, Station, first, preparing, commits}
-use Rattle.agreement.specs.Station.{Act, opening, joining, admitting, closing, deciding, Applies, after, speech, news}
-use Rattle.agreement.specs.Rig.{Rig, Opened, Call, Step, Broadcasts, Acted, told, Delivered, Stays}
+use Rattle.agreement.specs.Station.{Setting, size, stages, Own, Station, with_prepared, bit_to_commit}
+use Rattle.agreement.specs.Station.{Act, opening, joining, admitting, closing, deciding, Applies, after_act, speech}
+use Rattle.agreement.specs.Rig.{Rig, Opened, Call, Step, Broadcasts, Acted, addressee_after, Delivered, Stays}
 use Rattle.agreement.specs.Rig.{Answer, acted, delivered, sent, lost, repeated, refused}
 use Rattle.agreement.specs.Theorems.{PostedBounded}
 use Rattle.agreement.proofs.Tests.{same?, adds, up_to_two}
@@ -71,7 +72,7 @@ or_le : (a b : Bool) → one a ≤ one (a || b)
 or_le true b = omega arith
 or_le false b = omega arith
 
-first_le : (o p : Option ℕ) → there o ≤ there (first o p)
+first_le : (o p : Option ℕ) → there o ≤ there (option_or o p)
 first_le none p = omega arith
 first_le (some x) p = omega arith
 
@@ -80,18 +81,18 @@ flips : (a b : Bool) → a ≡ false → b ≡ true → one a + 1 ≤ one b
 flips a b p q = rw (p, q) (omega arith)
 
 module _ (σ v : ℕ) (s : Station) where
-  grows : (x y : ℕ) → one (s.prepared x y) ≤ one ((preparing σ v s).prepared x y)
+  grows : (x y : ℕ) → one (s.prepared x y) ≤ one ((with_prepared σ v s).prepared x y)
   grows x y = or_le (s.prepared x y) (eqb x σ && eqb y v)
 
-  row_preparing : (x : ℕ) → row s x ≤ row (preparing σ v s) x
-  row_preparing x = omega (arith, grows x 0, grows x 1, grows x 2)
+  row_with_prepared : (x : ℕ) → row s x ≤ row (with_prepared σ v s) x
+  row_with_prepared x = omega (arith, grows x 0, grows x 1, grows x 2)
 
-  row_new : v ≤ 2 → s.prepared σ v ≡ false → row s σ + 1 ≤ row (preparing σ v s) σ
+  row_new : v ≤ 2 → s.prepared σ v ≡ false → row s σ + 1 ≤ row (with_prepared σ v s) σ
   row_new h e =
-      let new : one (s.prepared σ v) + 1 ≤ one ((preparing σ v s).prepared σ v)
-      = flips (s.prepared σ v) ((preparing σ v s).prepared σ v) e (adds (s.prepared σ v) σ v) in
-      let at : (w : ℕ) → v ≡ w → one (s.prepared σ w) + 1 ≤ one ((preparing σ v s).prepared σ w)
-      = λ w q. subst (λ x. one (s.prepared σ x) + 1 ≤ one ((preparing σ v s).prepared σ x)) q new in
+      let new : one (s.prepared σ v) + 1 ≤ one ((with_prepared σ v s).prepared σ v)
+      = flips (s.prepared σ v) ((with_prepared σ v s).prepared σ v) e (adds (s.prepared σ v) σ v) in
+      let at : (w : ℕ) → v ≡ w → one (s.prepared σ w) + 1 ≤ one ((with_prepared σ v s).prepared σ w)
+      = λ w q. subst (λ x. one (s.prepared σ x) + 1 ≤ one ((with_prepared σ v s).prepared σ x)) q new in
       elim (up_to_two v h) [
         | inl z ↦ omega (arith, at 0 z, grows σ 1, grows σ 2)
         | inr y ↦ elim y [
@@ -100,18 +101,19 @@ module _ (σ v : ℕ) (s : Station) where
         ]
       ]
 
-  talk_preparing : (g : Setting) → σ < stages g → v ≤ 2 → s.prepared σ v ≡ false → talk g s + 1 ≤ talk g (preparing σ v s)
-  talk_preparing g h k e =
-      omega (arith, sum_more (stages g) (row s) (row (preparing σ v s)) σ 1 h (λ x l. row_preparing x) (row_new k e))
+  talk_with_prepared : (g : Setting) → σ < stages g → v ≤ 2 → s.prepared σ v ≡ false
+      → talk g s + 1 ≤ talk g (with_prepared σ v s)
+  talk_with_prepared g h k e =
+      omega (arith, sum_more (stages g) (row s) (row (with_prepared σ v s)) σ 1 h (λ x l. row_with_prepared x) (row_new k e))
 
--- news are said of what is there for the first time
-news_first : (f : ℕ → Payload) (o p : Option ℕ) → there o + there (news f o p) ≤ there (first o p)
-news_first f none none = omega arith
-news_first f none (some x) = omega arith
-news_first f (some y) none = omega arith
-news_first f (some y) (some x) = omega arith
+-- what is said only where there was nothing
+said_first : (f : ℕ → Payload) (o p : Option ℕ)
+    → there o + there (if is_none o then option_map f p else none) ≤ there (option_or o p)
+said_first f none none = omega arith
+said_first f none (some x) = omega arith
+said_first f (some y) p = omega arith
 
-row_admitting : (g : Setting) (σ v : ℕ) (s : Station) (x : ℕ) → row s x ≤ row (after g (admitting σ v) s) x
+row_admitting : (g : Setting) (σ v : ℕ) (s : Station) (x : ℕ) → row s x ≤ row (after_act g (admitting σ v) s) x
 row_admitting g σ v s x = elim (same? x σ) [
   | inl e ↦ rw (proposed_at g σ v s x e) (rw e (omega (arith, first_le (s.proposed σ) (some v))))
   | inr e ↦ rw e (omega arith)
@@ -121,28 +123,25 @@ row_admitting g σ v s x = elim (same? x σ) [
 abbrev Inputs : Station → Type 0
 Inputs s = (σ : ℕ) → σ ≤ s.stage → (s.input σ ≤ 2) × (σ % 2 ≡ 0 → s.input σ ≤ 1)
 
-inputs_after : (g : Setting) (a : Act) (s : Station) → Applies g s a → Inputs s → Inputs (after g a s)
-inputs_after g (opening σ v) s p d = d
-inputs_after g (joining σ v) s p d = d
-inputs_after g (admitting σ v) s p d = d
+inputs_after : (g : Setting) (a : Act) (s : Station) → Applies g s a → Inputs s → Inputs (after_act g a s)
 inputs_after g (closing σ P) s p d = inputs_closing g σ P s (λ x h. d x (omega (arith, p.0)))
-inputs_after g (deciding b) s p d = d
+inputs_after g a s p d = d
 
 -- an act says at most what it adds to the talk
 talk_after : (g : Setting) (a : Act) (s : Station) → Applies g s a → Inputs s
-    → talk g s + there (speech a s) ≤ talk g (after g a s)
+    → talk g s + there (speech a s) ≤ talk g (after_act g a s)
 talk_after g (opening σ v) s p d =
-    let i = (d σ (omega (arith, p.0))).0 in talk_preparing σ v s g p.1 (omega (arith, p.2)) p.3
-talk_after g (joining σ v) s p d = talk_preparing σ v s g p.1 p.2 p.3
+    let i = (d σ (omega (arith, p.0))).0 in talk_with_prepared σ v s g p.1 (omega (arith, p.2)) p.3
+talk_after g (joining σ v) s p d = talk_with_prepared σ v s g p.1 p.2 p.3
 talk_after g (admitting σ v) s p d =
-    let said = there (news (propose σ) (s.proposed σ) (some v)) in
-    let here : row s σ + said ≤ row (after g (admitting σ v) s) σ
-    = rw (proposed_at g σ v s σ refl) (omega (arith, news_first (propose σ) (s.proposed σ) (some v))) in
+    let said = there (if is_none (s.proposed σ) then some (propose σ v) else none) in
+    let here : row s σ + said ≤ row (after_act g (admitting σ v) s) σ
+    = rw (proposed_at g σ v s σ refl) (omega (arith, said_first (propose σ) (s.proposed σ) (some v))) in
     omega (
       arith,
-      sum_more (stages g) (row s) (row (after g (admitting σ v) s)) σ said p.1 (λ x l. row_admitting g σ v s x) here,
+      sum_more (stages g) (row s) (row (after_act g (admitting σ v) s)) σ said p.1 (λ x l. row_admitting g σ v s x) here,
     )
-talk_after g (closing σ P) s p d = omega (arith, news_first commit s.committed (commits σ P))
+talk_after g (closing σ P) s p d = omega (arith, said_first commit s.committed (bit_to_commit σ P))
 talk_after g (deciding b) s p d = omega arith
 
 -- an own station's talk
@@ -181,9 +180,9 @@ module _ (g : Setting) (r r' : Rig) (b : Bounded g r) where
   bounded_delivered m change c =
       let k = m.addressee in let W = r.station in
       bounded_still
-      (λ i. changed (λ x t. Own g x → Inputs t) k (told g m (W k)) W r'.station c.stations i
+      (λ i. changed (λ x t. Own g x → Inputs t) k (addressee_after g m (W k)) W r'.station c.stations i
       (λ _. when_told (λ t. Own g k → Inputs t) g m (W k) (b.inputs k) (b.inputs k)) (b.inputs i))
-      (λ i. changed (λ x t. talk g (W x) ≤ talk g t) k (told g m (W k)) W r'.station c.stations i
+      (λ i. changed (λ x t. talk g (W x) ≤ talk g t) k (addressee_after g m (W k)) W r'.station c.stations i
       (λ _. when_told (λ t. talk g (W k) ≤ talk g t) g m (W k) (omega arith) (omega arith)) (omega arith))
       c.counts.0
 
@@ -193,30 +192,30 @@ module _ (g : Setting) (r r' : Rig) (b : Bounded g r) where
 
   bounded_acted : (i : ℕ) (a : Act) → Acted g i a r r' → Bounded g r'
   bounded_acted i a c = record {
-    inputs = λ k. changed (λ x t. Own g x → Inputs t) i (after g a (r.station i)) r.station r'.station
+    inputs = λ k. changed (λ x t. Own g x → Inputs t) i (after_act g a (r.station i)) r.station r'.station
         c.stations k (λ _ o. inputs_after g a (r.station i) c.due.0 (b.inputs i o)) (b.inputs k);
     posted = omega (
       arith,
       b.posted,
-      spoken_posted i (speech a (r.station i)) c.broadcast,
+      spoken_posted i (speech a (r.station i)) c.posts,
       mul-le-mul_left (size g) grown,
     );
   }
     where
-      more : talk g (r.station i) + there (speech a (r.station i)) ≤ talk g (after g a (r.station i))
-      more = talk_after g a (r.station i) c.due.0 (b.inputs i c.own)
+      more : talk g (r.station i) + there (speech a (r.station i)) ≤ talk g (after_act g a (r.station i))
+      more = talk_after g a (r.station i) c.due.0 (b.inputs i c.by_own)
 
       talks : (k : ℕ) → talk g (r.station k) ≤ talk g (r'.station k)
-      talks k = changed (λ x t. talk g (r.station x) ≤ talk g t) i (after g a (r.station i)) r.station r'.station
+      talks k = changed (λ x t. talk g (r.station x) ≤ talk g t) i (after_act g a (r.station i)) r.station r'.station
           c.stations k (λ _. omega (arith, more)) (omega arith)
 
       here : share g r.station i + there (speech a (r.station i)) ≤ share g r'.station i
-      here = rw c.own.1
+      here = rw c.by_own.1
           (subst (λ t. talk g (r.station i) + there (speech a (r.station i)) ≤ talk g t) (sym c.stations.0) more)
 
       grown : sum (size g) (share g r.station) + there (speech a (r.station i)) ≤ sum (size g) (share g r'.station)
       grown = sum_more (size g) (share g r.station) (share g r'.station) i (there (speech a (r.station i)))
-          c.own.0 (λ x h. share_grows g r.station r'.station x (talks x)) here
+          c.by_own.0 (λ x h. share_grows g r.station r'.station x (talks x)) here
 
 bounded_opened : (g : Setting) (r : Rig) → Opened g r → Bounded g r
 bounded_opened g r o = record {

@@ -1,6 +1,7 @@
 -- At most one act is due, and one is due where any applies: the acts that apply are numbered in their order.
 use Rattle.std.proofs.Common.{◌≡◌, ℕ, zero, suc, ◌+◌, ◌-◌, ◌*◌, ◌/◌, ◌%◌, ◌<◌, ◌≤◌, Bool, true, false, cond, eqb, ◌⊎◌, ◌↔◌, Some as some, Option, sym, refl, ap, ◌∙◌, subst, inl, inr, arith}
-use Rattle.agreement.specs.Station.{Setting, size, stages, Station, passes, ProposalSet}
+use Rattle.std.specs.Option.{option_map_or}
+use Rattle.agreement.specs.Station.{Setting, size, stages, Station, ProposalSet}
 use Rattle.agreement.specs.Station.{Act, opening, joining, admitting, closing, deciding}
 use Rattle.agreement.specs.Station.{Applies, place, Before}
 use Rattle.agreement.specs.Theorems.{OneActDue, DueOrIdle}
@@ -25,13 +26,13 @@ least P decide (suc n) = elim (least P decide n) [
 ]
 
 -- what passes the test for v is v
-is_value : (v : ℕ) (o : Option ℕ) → passes (eqb v) o ≡ true → o ≡ some v
+is_value : (v : ℕ) (o : Option ℕ) → option_map_or (eqb v) o false ≡ true → o ≡ some v
 is_value v o e = grind arith
 
 -- whether a value belongs to a stage's proposal set
 backed : (g : Setting) (s : Station) (σ v : ℕ)
     → let A = (s.admitted σ v ≡ true) × ((j : ℕ) × (j < size g) × (s.proposal σ j ≡ some v)) in A ⊎ (A → ⊥)
-backed g s σ v = let f = find (size g) (λ j. passes (eqb v) (s.proposal σ j)) in grind (arith, is_value)
+backed g s σ v = let f = find (size g) (λ j. option_map_or (eqb v) (s.proposal σ j) false) in grind (arith, is_value)
 
 -- each stage has a proposal set
 pub some_proposal_set : (g : Setting) (s : Station) (σ : ℕ) → (P : ℕ → Bool) × ProposalSet g s σ P
@@ -83,21 +84,16 @@ module _ (g : Setting) (s : Station) where
 
   -- whether it applies
   applies? : (σ r v : ℕ) → Applies g s (by σ r v) ⊎ (Applies g s (by σ r v) → ⊥)
-  applies? σ zero v = grind arith
-  applies? σ (suc zero) v = grind arith
-  applies? σ (suc (suc zero)) v = grind arith
   applies? σ (suc (suc (suc zero))) v = let p = (some_proposal_set g s σ).1 in grind arith
-  applies? σ (suc (suc (suc (suc r)))) v = grind arith
+  applies? σ r v = grind arith
 
   -- an act that applies is that one
   by_place : (a : Act) → Applies g s a → by (row g a) ((place a).2 - 1) (place a).3 ≡ a
   by_place (opening σ v) p = ap (opening σ) (sym p.2)
-  by_place (joining σ v) p = refl
-  by_place (admitting σ v) p = refl
   by_place (closing σ P) p =
       let Q = some_proposal_set g s σ in
       ap (closing σ) (λ i v. same_truth (Q.0 v) (P v) (λ t. (p.3 v).1 ((Q.1 v).0 t)) (λ t. (Q.1 v).1 ((p.3 v).0 t)) i)
-  by_place (deciding b) p = refl
+  by_place a p = refl
 
   -- the act with a number
   abbrev act : ℕ → Act

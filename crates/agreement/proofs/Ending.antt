@@ -3,7 +3,7 @@ use Rattle.std.proofs.Common.{◌≡◌, ℕ, ◌+◌, ◌-◌, ◌*◌, ◌/◌
 use Rattle.agreement.specs.Messages.{commit}
 use Rattle.agreement.specs.Sets.{Set, Part, outside, without}
 use Rattle.agreement.specs.Families.{Laws, Blocking}
-use Rattle.agreement.specs.Station.{Setting, size, stages, Own, bit, grade, at_two, deciding}
+use Rattle.agreement.specs.Station.{Setting, size, stages, Own, bit, grading_of, bit_at_two, deciding}
 use Rattle.agreement.specs.Law.{Wide, Narrow}
 use Rattle.agreement.proofs.Tests.{and_not, same?}
 use Rattle.agreement.proofs.Closing.{bit_le, follows_one, makes_odd, at_two_is}
@@ -142,12 +142,12 @@ coin_unanimous g W all ρ un i o h =
     let here : 4 * ρ + 1 + 1 ≡ 4 * ρ + 2 = omega arith in
     let there : 4 * ρ + 1 ≡ 4 * ρ + 2 * 0 + 1 = omega arith in
     let round : (4 * ρ + 1) / 4 ≡ ρ = omega arith in
-    let made : (W i).grading (4 * ρ + 2 * 0 + 1) ≡ some (grade c.set)
+    let made : (W i).grading (4 * ρ + 2 * 0 + 1) ≡ some (grading_of c.set)
     = ap (W i).grading (sym there) ∙ (c.graded ∙ makes_odd (4 * ρ + 1) c.set (omega arith)) in
-    let is : at_two (grade c.set) (bit (g.coin ρ)) ≡ bit (g.coin ρ)
-    = at_two_is (grade c.set).0 (grade c.set).1 (bit (g.coin ρ))
+    let is : bit_at_two (grading_of c.set) (bit (g.coin ρ)) ≡ bit (g.coin ρ)
+    = at_two_is (grading_of c.set).0 (grading_of c.set).1 (bit (g.coin ρ))
     (λ b p q. un i b o (made ∙ (λ x. some (p x, q x)))) in
-    let coin : at_two (grade c.set) (bit (g.coin ((4 * ρ + 1) / 4))) ≡ bit (g.coin ρ)
-    = ap (λ (x : ℕ). at_two (grade c.set) (bit (g.coin x))) round ∙ is in
+    let coin : bit_at_two (grading_of c.set) (bit (g.coin ((4 * ρ + 1) / 4))) ≡ bit (g.coin ρ)
+    = ap (λ (x : ℕ). bit_at_two (grading_of c.set) (bit (g.coin x))) round ∙ is in
     ap (W i).input (sym here)
     ∙ (c.next ∙ (follows_one g (4 * ρ + 1) c.set ((W i).input (4 * ρ + 1 - 1)) (omega arith) ∙ coin))

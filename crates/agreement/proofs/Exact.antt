@@ -2,14 +2,14 @@
 use Rattle.std.proofs.Common.{◌≡◌, ℕ, ◌<◌, ◌≤◌, Bool, false, not, ◌⊎◌, List, [], ◌∷◌, map, Some as some, None as none, Option, sym, refl, ap, ◌∙◌, subst, inl, inr, arith}
 use Rattle.agreement.specs.declared.message.Message.{Message}
 use Rattle.agreement.specs.Messages.{copies, Same, Payload}
-use Rattle.agreement.specs.Station.{Setting, size, Own, Guest, Station, Act, after, speech, put}
+use Rattle.agreement.specs.Station.{Setting, size, Own, Guest, Station, Act, after_act, speech, put}
 use Rattle.agreement.specs.Rig.{Rig, Call, turn, deliver, lose, send, repeat, Refused, Step, Plays}
 use Rattle.agreement.specs.Rig.{Answer, acted, delivered, sent, lost, repeated, refused}
-use Rattle.agreement.specs.Rig.{Changes, broadcast, Broadcasts, Acted, told, Delivered, Lost, Accepted}
-use Rattle.agreement.specs.Theorems.{CallsAreAnswered, Alike, taken, Indifferent, OnlyTakesAreOpen, RunsGoByTakes}
+use Rattle.agreement.specs.Rig.{Changes, broadcast, Broadcasts, Acted, addressee_after, Delivered, Lost, Accepted}
+use Rattle.agreement.specs.Theorems.{CallsAreAnswered, Alike, taken_message, Indifferent, OnlyTakesAreOpen, RunsGoByTakes}
 use Rattle.agreement.proofs.Tests.{true_or_false}
 use Rattle.agreement.proofs.Waiting.{not_empty, emptied, same_more, same_less, same_broadcast}
-use Rattle.agreement.proofs.Records.{told_changes?}
+use Rattle.agreement.proofs.Records.{addressee_changes?}
 use Rattle.agreement.proofs.Due.{test, one_act_due, due_or_idle}
 
 -- what a turn meets
@@ -32,11 +32,11 @@ none_or none = inl refl
 none_or (some m) = inr (m, refl)
 
 -- one station is put
-put_changes : (i : ℕ) (s : Station) (W : ℕ → Station) → Changes i s W (put W i s)
+pub put_changes : (i : ℕ) (s : Station) (W : ℕ → Station) → Changes i s W (put W i s)
 put_changes i s W = grind arith
 
 -- a rig by its parts
-abbrev rig : (ℕ → Station) → List Message → Option Message → ℕ → ℕ → Rig
+abbrev pub rig : (ℕ → Station) → List Message → Option Message → ℕ → ℕ → Rig
 rig W w m p q = record { station = W; waiting = w; last = m; posted = p; missing = q }
 
 -- what waits and is counted after i said something or nothing
@@ -56,10 +56,10 @@ calls_are_answered g (turn i) r = elim (which g i) [
   | inr (inl h) ↦ (refused 12, r, (grind arith, refl))
   | inr (inr o) ↦ elim (due_or_idle g (r.station i)) [
     | inl (a, d) ↦
-        let W = put r.station i (after g a (r.station i)) in
+        let W = put r.station i (after_act g a (r.station i)) in
         let (w, p, q, u) = said g i (speech a (r.station i)) W r in
-        let c = put_changes i (after g a (r.station i)) r.station in
-        (acted i a, rig W w r.last p q, (refl, record { own = o; due = d; stations = c; broadcast = u; last = refl }))
+        let c = put_changes i (after_act g a (r.station i)) r.station in
+        (acted i a, rig W w r.last p q, (refl, record { by_own = o; due = d; stations = c; posts = u; last = refl }))
     | inr idle ↦ (refused 13, r, (grind arith, refl))
   ]
 ]
@@ -68,10 +68,10 @@ calls_are_answered g (deliver h) r = elim (empty_or r.waiting) [
   | inr (m, w, e) ↦
       let i = m.addressee in
       let s = r.station i in
-      let c = put_changes i (told g m s) r.station in
-      let b = test (told_changes? g m s) in
+      let c = put_changes i (addressee_after g m s) r.station in
+      let b = test (addressee_changes? g m s) in
       let v : Same r.waiting (m ∷ w) = λ x. ap (copies x) e in
-      let r' = rig (put r.station i (told g m s)) w (some m) r.posted r.missing in
+      let r' = rig (put r.station i (addressee_after g m s)) w (some m) r.posted r.missing in
       (delivered m (not b.0), r', (h, refl, grind arith))
 ]
 calls_are_answered g (lose h) r = elim (empty_or r.waiting) [
@@ -134,7 +134,7 @@ refused_too g n c k r q l p =
     grind arith
 
 -- a delivery to a station that is not own changes nothing
-told_or : (g : Setting) (m : Message) (s : Station) → Own g m.addressee ⊎ (told g m s ≡ s)
+told_or : (g : Setting) (m : Message) (s : Station) → Own g m.addressee ⊎ (addressee_after g m s ≡ s)
 told_or g m s = grind arith
 
 -- alike the other way round
@@ -153,23 +153,23 @@ module _ (g : Setting) (n : Indifferent g) (r r' q q' : Rig) (l : Alike g r q) w
 
   -- what is answered and left
   done_alike : (c : Call) (a b : Answer) → Done g c a r r' → Done g c b q q'
-      → ((m n : Message) → taken a ≡ some m → taken b ≡ some n → m ≡ n) → (a ≡ b) × Alike g r' q'
+      → ((m n : Message) → taken_message a ≡ some m → taken_message b ≡ some n → m ≡ n) → (a ≡ b) × Alike g r' q'
   done_alike (turn i) a b (x, e, d) (y, f, k) t =
-      let s = l.stations i d.own.0 in
+      let s = l.stations i d.by_own.0 in
       let z = one_act_due g (q.station i) x y (rw s at d.due) k.due in
-      let p = subst (λ o. Broadcasts g i o r r') (λ j. speech (z j) (s j)) d.broadcast in
-      let w = broadcast_alike i (speech y (q.station i)) p k.broadcast in
-      let u : after g x (r.station i) ≡ after g y (q.station i) = λ j. after g (z j) (s j) in
+      let p = subst (λ o. Broadcasts g i o r r') (λ j. speech (z j) (s j)) d.posts in
+      let w = broadcast_alike i (speech y (q.station i)) p k.posts in
+      let u : after_act g x (r.station i) ≡ after_act g y (q.station i) = λ j. after_act g (z j) (s j) in
       grind arith
   done_alike (deliver h) a b (m, x, e, d) (m', y, f, k) t =
-      let z = t m m' (ap taken e) (ap taken f) in
+      let z = t m m' (ap taken_message e) (ap taken_message f) in
       let o : Same q.waiting (m ∷ q'.waiting) = rw z k.waiting in
       let w = same_less m r.waiting r'.waiting q.waiting q'.waiting l.waiting d.waiting o in
       let u = told_or g m (r.station m.addressee) in
       let v = told_or g m (q.station m.addressee) in
       grind arith
   done_alike (lose h) a b (m, e, d) (m', f, k) t =
-      let z = t m m' (ap taken e) (ap taken f) in
+      let z = t m m' (ap taken_message e) (ap taken_message f) in
       let w = same_less m r.waiting r'.waiting q.waiting q'.waiting l.waiting d.0 (rw z k.0) in
       grind arith
   done_alike (send m) a b d k t =
@@ -196,7 +196,8 @@ only_takes_are_open g n c a b r r' q q' l s t h = elim (by_call g c a r r' s) [
 
 -- runs from alike rigs
 runs_alike : (g : Setting) → Indifferent g → (calls : List Call) (answers others : List Answer) (o r p q : Rig)
-    → Alike g o p → Plays g calls answers o r → Plays g calls others p q → map taken answers ≡ map taken others
+    → Alike g o p → Plays g calls answers o r → Plays g calls others p q
+    → map taken_message answers ≡ map taken_message others
     → (answers ≡ others) × Alike g r q
 runs_alike g n [] [] [] o r p q l x y t = (refl, rw (x, y) l)
 runs_alike g n [] [] (b ∷ others) o r p q l x y t = absurd y

@@ -1,18 +1,16 @@
 -- The runs of a single station.
-use Rattle.std.proofs.Common.{◌≡◌, ℕ, zero, suc, ◌+◌, ◌*◌, ◌/◌, ◌<◌, true, cond, ◌&&◌, eqb, ltb, List, [], ◌∷◌, ◌++◌, Some as some, None as none, Option, sym, refl, inr, arith}
+use Rattle.std.proofs.Common.{◌≡◌, ℕ, zero, suc, ◌+◌, ◌*◌, ◌/◌, ◌<◌, Bool, true, false, cond, ◌&&◌, eqb, ltb, List, [], ◌∷◌, ◌++◌, Some as some, None as none, Option, sym, refl, inr, arith}
 use Rattle.agreement.specs.declared.message.Message.{Message}
-use Rattle.agreement.specs.Sets.{only}
 use Rattle.agreement.specs.Families.{DownwardClosed}
 use Rattle.agreement.specs.Messages.{Payload, prepare, propose, commit, message}
-use Rattle.agreement.specs.Station.{Own, Station, fresh, heeded, recorded, after, speech, follows, commits, put}
+use Rattle.agreement.specs.Station.{Own, Station, fresh_station, is_heeded, with_message, after_act, speech, next_input, bit_to_commit, put}
 use Rattle.agreement.specs.Station.{Act, opening, joining, admitting, closing, deciding, Applies, Idle, Before}
 use Rattle.agreement.specs.Rig.{Rig, Opened, Call, turn, deliver, Changes, Broadcasts, Step, Plays}
 use Rattle.agreement.specs.Rig.{Answer, acted, delivered, refused}
-use Rattle.agreement.specs.Example.{nobody, single, calls, SingleRun, QuietRun}
+use Rattle.agreement.specs.Example.{nobody, single, six_calls, SingleRun, QuietRun}
 use Rattle.agreement.proofs.Tests.{clash}
 use Rattle.agreement.proofs.Records.{new, new_changes}
 
-infixr 20 ◌then◌
 -- a part of the empty set is empty
 parts : DownwardClosed 1 nobody.wide
 parts X Y p e = let k = p 0 (omega arith) in grind arith
@@ -26,6 +24,7 @@ record At (k : ℕ) (s : Station) : Type 0 where
   preparers : (σ v : ℕ) → σ < 4 → s.preparers σ v 0 ≡ (eqb v 1 && ltb (5 * σ + 1) k)
   admitted : (σ v : ℕ) → σ < 4 → s.admitted σ v ≡ (eqb v 1 && ltb (5 * σ + 2) k)
   proposed : (σ : ℕ) → σ < 4 → s.proposed σ ≡ cond (ltb (5 * σ + 2) k) (some 1) none
+  grading : (b : ℕ) → s.grading 1 ≡ some (some b, 2) → b ≡ 1
   proposal : (σ : ℕ) → σ < 4 → s.proposal σ 0 ≡ cond (ltb (5 * σ + 3) k) (some 1) none
   committed : s.committed ≡ cond (ltb 19 k) (some 1) none
   committers : (b : ℕ) → s.committers b 0 ≡ (eqb b 1 && ltb 20 k)
@@ -39,9 +38,9 @@ Timely k (admitting σ v) = (σ < 4) × (k ≡ 5 * σ + 2) × (v ≡ 1)
 Timely k (closing σ P) = (σ < 4) × (k ≡ 5 * σ + 4)
 Timely k (deciding b) = (k ≡ 21) × (b ≡ 1)
 
--- no other applies
-timely : (k : ℕ) (s : Station) → At k s → (a : Act) → Applies single s a → Timely k a
-timely k s h a p = grind arith
+-- the set of the value 1
+abbrev one : ℕ → Bool
+one v = eqb v 1
 
 -- none of them is before another
 alone : (k : ℕ) (a b : Act) → Timely k a → Timely k b → Before b a → ⊥
@@ -52,33 +51,6 @@ record RigAt (k : ℕ) (w : List Message) (r : Rig) : Type 0 where
   station : At k (r.station 0)
   waiting : r.waiting ≡ w
   missing : r.missing ≡ 0
-
--- calls cs with answers xs lead from k changes, where u waits, to l changes, where v waits
-record Leads (k : ℕ) (u : List Message) (cs : List Call) (xs : List Answer) (l : ℕ) (v : List Message) : Type 0 where
-  run : (r : Rig) → RigAt k u r → (r' : Rig) × Plays single cs xs r r' × RigAt l v r'
-
--- one call
-once : {k l : ℕ} {u v : List Message} {c : Call} {x : Answer}
-    → ((r : Rig) → RigAt k u r → (r' : Rig) × Step single c x r r' × RigAt l v r') → Leads k u (c ∷ []) (x ∷ []) l v
-once f = record { run = λ r h. let (q, s, i) = f r h in (q, (q, s, refl), i) }
-
--- two runs in a row
-joined : (cs ds : List Call) (xs ys : List Answer) (r q r' : Rig) → Plays single cs xs r q → Plays single ds ys q r'
-    → Plays single (cs ++ ds) (xs ++ ys) r r'
-joined [] ds [] ys r q r' e p = rw (← e) p
-joined [] ds (x ∷ xs) ys r q r' e p = absurd e
-joined (c ∷ cs) ds [] ys r q r' e p = absurd e
-joined (c ∷ cs) ds (x ∷ xs) ys r q r' (o, s, e) p = (o, s, joined cs ds xs ys o q r' e p)
-
--- what leads to l changes, and what leads on from there
-◌then◌ : {k l m : ℕ} {u v w : List Message} {cs ds : List Call} {xs ys : List Answer}
-    → Leads k u cs xs l v → Leads l v ds ys m w → Leads k u (cs ++ ds) (xs ++ ys) m w
-◌then◌ {cs} {ds} {xs} {ys} f g = record {
-  run = λ r h.
-      let (q, e, i) = f.run r h in
-      let (r', p, j) = g.run q i in
-      (r', joined cs ds xs ys r q r' e p, j);
-}
 
 -- the rig with the one station in state s, and with what else a call changes
 abbrev becomes : Station → Rig → List Message → Option Message → ℕ → Rig
@@ -93,86 +65,17 @@ abbrev posts : Option Payload → List Message
 posts none = []
 posts (some p) = message 0 0 p ∷ []
 
--- none of it is turned away
-says : (p : Option Payload) (s : Station) (r : Rig) → r.waiting ≡ [] → r.missing ≡ 0
-    → (n : ℕ) × Broadcasts single 0 p r (becomes s r (posts p) r.last n)
-says none s r e m = (r.posted, (λ x. rw e, refl, sym m))
-says (some p) s r e m = (r.posted + 1, (λ x. rw e, refl, rw (e, m)))
-
--- a turn: an act that applies is the one due
-acts : {k l : ℕ} (a : Act) (p : Option Payload)
-    → ((s : Station) → At k s → Applies single s a × (speech a s ≡ p) × At l (after single a s))
-    → Leads k [] (turn 0 ∷ []) (acted 0 a ∷ []) l (posts p)
-acts {k} a p f = once (λ r h.
-    let s = r.station 0 in
-    let (d, e, i) = f s h.station in
-    let (n, b) = says p (after single a s) r h.waiting h.missing in (
-      becomes (after single a s) r (posts p) r.last n,
-      (
-        refl,
-        record {
-          own = (omega arith, refl);
-          due = (d, λ x y z. alone k a x (timely k s h.station a d) (timely k s h.station x z) y);
-          stations = changes (after single a s) r.station;
-          broadcast = rw e b;
-          last = refl;
-        },
-      ),
-      record { station = i; waiting = refl; missing = refl },
-    ))
-
--- a turn when no act is to come
-idles : {k : ℕ} {w : List Message} → ((a : Act) → Timely k a → ⊥) → Leads k w (turn 0 ∷ []) (refused 13 ∷ []) k w
-idles {k} f = once (λ r h.
-    (r, (inr (inr (refl, (omega arith, refl), λ a p. f a (timely k (r.station 0) h.station a p))), refl), h))
-
 -- a message from the station to itself
 abbrev note : ℕ → ℕ → ℕ → Message
 note kind σ v = record { sender = 0; addressee = 0; kind = kind; stage = σ; value = v }
-
--- a delivery of the one message that waits, which counts and is new
-hears : {k l : ℕ} (kind σ v : ℕ)
-    → ((s : Station) → At k s
-    → (heeded 1 4 (note kind σ v) ≡ true) × (new (note kind σ v) s ≡ true) × At l (recorded (note kind σ v) s))
-    → Leads k (note kind σ v ∷ []) (deliver 0 ∷ []) (delivered (note kind σ v) true ∷ []) l []
-hears kind σ v f = once (λ r h.
-    let m = note kind σ v in
-    let s = r.station 0 in
-    let (d, e, i) = f s h.station in (
-      becomes (recorded m s) r [] (some m) r.posted,
-      (
-        0,
-        refl,
-        record {
-          waiting = λ x. rw h.waiting;
-          stations = rw d (changes (recorded m s) r.station);
-          changed = λ _. new_changes m s e;
-          unchanged = λ x. absurd (clash refl x);
-          last = refl;
-          counts = (refl, sym h.missing);
-        },
-      ),
-      record { station = i; waiting = refl; missing = refl },
-    ))
 
 -- what is said at the end of stage σ
 abbrev last_word : ℕ → Option Payload
 last_word σ = cond (eqb σ 3) (some (commit 1)) none
 
--- a stage that closes with {1} is followed by input 1
-follows_one : (σ v : ℕ) → follows single σ (only 1) v ≡ 1
-follows_one σ v = grind arith
-
 -- and the last one by a commitment to 1
-commits_one : (σ : ℕ) → σ < 4 → commits σ (only 1) ≡ cond (eqb σ 3) (some 1) none
+commits_one : (σ : ℕ) → σ < 4 → bit_to_commit σ one ≡ cond (eqb σ 3) (some 1) none
 commits_one σ l = grind arith
-
--- closing a stage
-closes : (σ : ℕ) → σ < 4 → (s : Station) → At (5 * σ + 4) s → let a = closing σ (only 1) in
-    Applies single s a × (speech a s ≡ last_word σ) × At (5 * σ + 5) (after single a s)
-closes σ l s h =
-    let c : s.committed ≡ none = grind arith in
-    (grind arith, rw (c, commits_one σ l) (grind arith), rw (c, follows_one, commits_one σ l) (grind arith))
 
 -- the answers to the six calls of the example, made in stage σ
 abbrev stage_answers : ℕ → List Answer
@@ -182,53 +85,156 @@ stage_answers σ =
     ∷ acted 0 (admitting σ 1)
     ∷ refused 13
     ∷ delivered (message 0 0 (propose σ 1)) true
-    ∷ acted 0 (closing σ (only 1))
+    ∷ acted 0 (closing σ one)
     ∷ []
-
--- these calls lead through the stage
-stage : (σ : ℕ) → σ < 4 → Leads (5 * σ) [] calls (stage_answers σ) (5 * σ + 5) (posts (last_word σ))
-stage σ l =
-    acts {l = 5 * σ + 1} (opening σ 1) (some (prepare σ 1)) (λ s h. grind arith)
-    then hears {l = 5 * σ + 2} 1 σ 1 (λ s h. grind arith)
-    then acts {l = 5 * σ + 3} (admitting σ 1) (some (propose σ 1)) (λ s h. (grind arith, grind arith, grind arith))
-    then idles (λ a p. grind arith)
-    then hears {l = 5 * σ + 4} 2 σ 1 (λ s h. grind arith)
-    then acts (closing σ (only 1)) (last_word σ) (closes σ l)
-
--- the six calls in each stage; then the commitment is heard, and 1 is decided
-stages : (cs : List Call) × (xs : List Answer) × Leads 0 [] cs xs 22 []
-stages = (
-  _,
-  _,
-  stage 0 (omega arith)
-      then stage 1 (omega arith)
-      then stage 2 (omega arith)
-      then stage 3 (omega arith)
-      then hears {l = 21} 3 0 1 (λ s h. grind arith)
-      then acts (deciding 1) none (λ s h. grind arith),
-)
 
 -- the rig as it is opened; the numbers from 1 on are no stations
 abbrev start : Rig
-start = record { station = λ _. fresh true; waiting = []; last = none; posted = 0; missing = 0 }
-
--- so it is, in the setting
-opened : Opened single start
-opened = record {
-  stations = elim [ zero ↦ λ _. refl | suc i ↦ λ o. absurd (omega (arith, o)) ];
-  waiting = refl;
-  last = refl;
-  posted = refl;
-  missing = refl;
-}
+start = record { station = λ _. fresh_station true; waiting = []; last = none; posted = 0; missing = 0 }
 
 -- and nothing has changed yet
 begins : RigAt 0 [] start
 begins = record { station = grind arith; waiting = refl; missing = refl }
 
+module _ (coin : Bool) where
+  -- no other applies
+  timely : (k : ℕ) (s : Station) → At k s → (a : Act) → Applies (single coin) s a → Timely k a
+  timely k s h a p = grind arith
+
+  -- calls cs with answers xs lead from k changes, where u waits, to l changes, where v waits
+  record Leads (k : ℕ) (u : List Message) (cs : List Call) (xs : List Answer) (l : ℕ) (v : List Message) : Type 0 where
+    run : (r : Rig) → RigAt k u r → (r' : Rig) × Plays (single coin) cs xs r r' × RigAt l v r'
+
+  -- one call
+  once : {k l : ℕ} {u v : List Message} {c : Call} {x : Answer}
+      → ((r : Rig) → RigAt k u r → (r' : Rig) × Step (single coin) c x r r' × RigAt l v r')
+      → Leads k u (c ∷ []) (x ∷ []) l v
+  once f = record { run = λ r h. let (q, s, i) = f r h in (q, (q, s, refl), i) }
+
+  -- two runs in a row
+  joined : (cs ds : List Call) (xs ys : List Answer) (r q r' : Rig) → Plays (single coin) cs xs r q
+      → Plays (single coin) ds ys q r' → Plays (single coin) (cs ++ ds) (xs ++ ys) r r'
+  joined [] ds [] ys r q r' e p = rw (← e) p
+  joined [] ds (x ∷ xs) ys r q r' e p = absurd e
+  joined (c ∷ cs) ds [] ys r q r' e p = absurd e
+  joined (c ∷ cs) ds (x ∷ xs) ys r q r' (o, s, e) p = (o, s, joined cs ds xs ys o q r' e p)
+
+  infixr 20 ◌then◌
+  -- what leads to l changes, and what leads on from there
+  ◌then◌ : {k l m : ℕ} {u v w : List Message} {cs ds : List Call} {xs ys : List Answer}
+      → Leads k u cs xs l v → Leads l v ds ys m w → Leads k u (cs ++ ds) (xs ++ ys) m w
+  ◌then◌ {cs} {ds} {xs} {ys} f g = record {
+    run = λ r h.
+        let (q, e, i) = f.run r h in
+        let (r', p, j) = g.run q i in
+        (r', joined cs ds xs ys r q r' e p, j);
+  }
+
+  -- none of it is turned away
+  says : (p : Option Payload) (s : Station) (r : Rig) → r.waiting ≡ [] → r.missing ≡ 0
+      → (n : ℕ) × Broadcasts (single coin) 0 p r (becomes s r (posts p) r.last n)
+  says none s r e m = (r.posted, (λ x. rw e, refl, sym m))
+  says (some p) s r e m = (r.posted + 1, (λ x. rw e, refl, rw (e, m)))
+
+  -- a turn: an act that applies is the one due
+  acts : {k l : ℕ} (a : Act) (p : Option Payload)
+      → ((s : Station) → At k s → Applies (single coin) s a × (speech a s ≡ p) × At l (after_act (single coin) a s))
+      → Leads k [] (turn 0 ∷ []) (acted 0 a ∷ []) l (posts p)
+  acts {k} a p f = once (λ r h.
+      let s = r.station 0 in
+      let (d, e, i) = f s h.station in
+      let (n, b) = says p (after_act (single coin) a s) r h.waiting h.missing in (
+        becomes (after_act (single coin) a s) r (posts p) r.last n,
+        (
+          refl,
+          record {
+            by_own = (omega arith, refl);
+            due = (d, λ x y z. alone k a x (timely k s h.station a d) (timely k s h.station x z) y);
+            stations = changes (after_act (single coin) a s) r.station;
+            posts = rw e b;
+            last = refl;
+          },
+        ),
+        record { station = i; waiting = refl; missing = refl },
+      ))
+
+  -- a turn when no act is to come
+  idles : {k : ℕ} {w : List Message} → ((a : Act) → Timely k a → ⊥) → Leads k w (turn 0 ∷ []) (refused 13 ∷ []) k w
+  idles {k} f = once (λ r h.
+      (r, (inr (inr (refl, (omega arith, refl), λ a p. f a (timely k (r.station 0) h.station a p))), refl), h))
+
+  -- a delivery of the one message that waits, which counts and is new
+  hears : {k l : ℕ} (kind σ v : ℕ)
+      → ((s : Station) → At k s
+      → (is_heeded 1 4 (note kind σ v) ≡ true) × (new (note kind σ v) s ≡ true) × At l (with_message (note kind σ v) s))
+      → Leads k (note kind σ v ∷ []) (deliver 0 ∷ []) (delivered (note kind σ v) true ∷ []) l []
+  hears kind σ v f = once (λ r h.
+      let m = note kind σ v in
+      let s = r.station 0 in
+      let (d, e, i) = f s h.station in (
+        becomes (with_message m s) r [] (some m) r.posted,
+        (
+          0,
+          refl,
+          record {
+            waiting = λ x. rw h.waiting;
+            stations = rw d (changes (with_message m s) r.station);
+            changed = λ _. new_changes m s e;
+            unchanged = λ x. absurd (clash refl x);
+            last = refl;
+            counts = (refl, sym h.missing);
+          },
+        ),
+        record { station = i; waiting = refl; missing = refl },
+      ))
+
+  -- a stage that closes with {1} is followed by input 1
+  follows_one : (σ v : ℕ) → next_input (single coin) σ one v ≡ 1
+  follows_one σ v = grind arith
+
+  -- closing a stage
+  closes : (σ : ℕ) → σ < 4 → (s : Station) → At (5 * σ + 4) s → let a = closing σ one in
+      Applies (single coin) s a × (speech a s ≡ last_word σ) × At (5 * σ + 5) (after_act (single coin) a s)
+  closes σ l s h =
+      let c : s.committed ≡ none = grind arith in
+      (grind arith, rw (c, commits_one σ l) (grind arith), rw (c, follows_one, commits_one σ l) (grind arith))
+
+  -- these calls lead through the stage
+  stage : (σ : ℕ) → σ < 4 → Leads (5 * σ) [] six_calls (stage_answers σ) (5 * σ + 5) (posts (last_word σ))
+  stage σ l =
+      acts {l = 5 * σ + 1} (opening σ 1) (some (prepare σ 1)) (λ s h. grind arith)
+      then hears {l = 5 * σ + 2} 1 σ 1 (λ s h. grind arith)
+      then acts {l = 5 * σ + 3} (admitting σ 1) (some (propose σ 1)) (λ s h. (grind arith, grind arith, grind arith))
+      then idles (λ a p. grind arith)
+      then hears {l = 5 * σ + 4} 2 σ 1 (λ s h. grind arith)
+      then acts (closing σ one) (last_word σ) (closes σ l)
+
+  -- the six calls in each stage; then the commitment is heard, and 1 is decided
+  stages : (cs : List Call) × (xs : List Answer) × Leads 0 [] cs xs 22 []
+  stages = (
+    _,
+    _,
+    stage 0 (omega arith)
+        then stage 1 (omega arith)
+        then stage 2 (omega arith)
+        then stage 3 (omega arith)
+        then hears {l = 21} 3 0 1 (λ s h. grind arith)
+        then acts (deciding 1) none (λ s h. grind arith),
+  )
+
+  -- so it is, in the setting
+  opened : Opened (single coin) start
+  opened = record {
+    stations = elim [ zero ↦ λ _. refl | suc i ↦ λ o. absurd (omega (arith, o)) ];
+    waiting = refl;
+    last = refl;
+    posted = refl;
+    missing = refl;
+  }
+
 -- the six calls in stage 0
 pub single_run : SingleRun
-single_run = let (r, p, h) = (stage 0 (omega arith)).run start begins in record {
+single_run = let (r, p, h) = (stage false 0 (omega arith)).run start begins in record {
   lawful = record {
     wide_parts = parts;
     narrow_parts = parts;
@@ -238,7 +244,7 @@ single_run = let (r, p, h) = (stage 0 (omega arith)).run start begins in record 
   };
   start = start;
   end = r;
-  opened = opened;
+  opened = opened false;
   plays = p;
   stage = h.station.stage;
   undecided = h.station.decision;
@@ -246,23 +252,29 @@ single_run = let (r, p, h) = (stage 0 (omega arith)).run start begins in record 
 }
 
 -- only station 0 is own
-only_own : (P : ℕ → Type 0) → P 0 → (i : ℕ) → Own single i → P i
+only_own : (P : ℕ → Type 0) → P 0 → (i : ℕ) → Own (single true) i → P i
 only_own P p i o = let e : i ≡ 0 = omega (arith, o.0) in rw e p
 
 -- after the last change no act applies
-rests : (s : Station) → At 22 s → Idle single s
-rests s h a p = let t = timely 22 s h a p in grind arith
+rests : (s : Station) → At 22 s → Idle (single true) s
+rests s h a p = let t = timely true 22 s h a p in grind arith
 
 -- all stages
 pub quiet_run : QuietRun
-quiet_run = let (cs, xs, f) = stages in let (r, p, h) = f.run start begins in record {
+quiet_run = let (cs, xs, f) = stages true in let (r, p, h) = f.run start begins in record {
   calls = cs;
   answers = xs;
   start = start;
   end = r;
-  opened = opened;
+  opened = opened true;
   plays = p;
-  quiet = (λ m _ _. rw h.waiting, only_own (λ i. Idle single (r.station i)) (rests (r.station 0) h.station));
+  narrow = refl;
+  alike = only_own (λ i. eqb i 0 ≡ true) refl;
+  unopposed = (
+    omega arith,
+    λ i b o. only_own (λ i. (r.station i).grading 1 ≡ some (some b, 2) → b ≡ 1) (h.station.grading b) i o,
+  );
+  quiet = (λ m _ _. rw h.waiting, only_own (λ i. Idle (single true) (r.station i)) (rests (r.station 0) h.station));
   finished = only_own (λ i. (r.station i).stage ≡ 4) h.station.stage;
   decided = h.station.decision;
   none_missing = h.missing;

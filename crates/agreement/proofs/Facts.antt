@@ -1,12 +1,14 @@
 -- What is true of an own station in every run, and how it lasts while other stations go on.
-use Rattle.std.proofs.Common.{◌≡◌, ℕ, ◌+◌, ◌-◌, ◌*◌, ◌%◌, ◌<◌, ◌≤◌, Bool, true, false, cond, Some as some, refl, ap, ◌∙◌, subst, inl, inr, arith}
+use Rattle.std.proofs.Common.{◌≡◌, ℕ, ◌+◌, ◌-◌, ◌*◌, ◌%◌, ◌<◌, ◌≤◌, Bool, true, Some as some, refl, ap, ◌∙◌, subst, inl, inr, arith}
+use Rattle.agreement.specs.Sets.{without}
 use Rattle.agreement.specs.Families.{Blocking, Quorum}
-use Rattle.agreement.specs.Station.{Setting, stages, Own, Station, fresh, Grading, bit, passes, follows, makes}
+use Rattle.agreement.specs.Station.{Setting, stages, Own, Station, fresh_station, Grading, bit, next_input, grading_made, proposers}
 use Rattle.agreement.specs.Rig.{Rig, Opened, Changes}
 
 -- an own station opens with its bit
-pub opens_with : (g : Setting) (r : Rig) → Opened g r → (i : ℕ) → Own g i → r.station i ≡ fresh (g.opens i)
-opens_with g r h i o = h.stations i o.0 ∙ ap (λ (b : Bool). fresh (cond b false (g.opens i))) o.1
+pub opens_with : (g : Setting) (r : Rig) → Opened g r → (i : ℕ) → Own g i → r.station i ≡ fresh_station (g.opens i)
+opens_with g r h i o =
+    let p = o.1 in let e : without g.opens g.guest i ≡ g.opens i = grind arith in h.stations i o.0 ∙ ap fresh_station e
 
 abbrev pub World : Type 0
 World = ℕ → Station
@@ -18,10 +20,10 @@ Origin g W σ v = (k : ℕ) × Own g k × (σ ≤ (W k).stage) × ((W k).input �
 -- what a station has of a stage that it closed
 pub record Closed (g : Setting) (s : Station) (σ : ℕ) : Type 0 where
   pub set : ℕ → Bool
-  pub quorum : Quorum g.rule (λ j. passes set (s.proposal σ j))
+  pub quorum : Quorum g.rule (proposers s σ set)
   pub admitted : (v : ℕ) → set v ≡ true → s.admitted σ v ≡ true
-  pub next : s.input (σ + 1) ≡ follows g σ set (s.input (σ - 1))
-  pub graded : s.grading σ ≡ makes σ set
+  pub next : s.input (σ + 1) ≡ next_input g σ set (s.input (σ - 1))
+  pub graded : s.grading σ ≡ grading_made σ set
 
 -- What it heard of own stations they did; what it prepared was an own input; what it admitted a quorum prepared; what it
 -- proposed first it admitted; closed stages were opened; gradings and commitment come of closed stages; a decision rests on

@@ -1,10 +1,11 @@
 -- Recording a message keeps the station's facts, if an own sender has really done what it says.
 use Rattle.std.proofs.Common.{◌≡◌, ℕ, Bool, true, false, cond, ◌&&◌, eqb, Some as some, None as none, Option, refl, inl, inr, arith, eqb-true}
+use Rattle.std.specs.Option.{option_or, option_map_or}
 use Rattle.agreement.specs.declared.message.Message.{Message}
 use Rattle.agreement.specs.Families.{Laws}
-use Rattle.agreement.specs.Station.{Setting, Own, Station, passes, first, recorded}
+use Rattle.agreement.specs.Station.{Setting, Own, Station, with_message, proposers}
 use Rattle.agreement.proofs.Tests.{clash, or_cases, or_left, and_split}
-use Rattle.agreement.proofs.Closing.{none_some, some_is, first_cases}
+use Rattle.agreement.proofs.Closing.{none_some, some_is, option_or-cases}
 use Rattle.agreement.proofs.Own.{quorum_grows, blocking_grows}
 use Rattle.agreement.proofs.Facts.{World, Good, Ext, Grow, good_grows}
 
@@ -21,8 +22,8 @@ sent_grows W W' m w t = record {
   committed = λ k. (w m.sender).committed m.value (t.committed k);
 }
 
-pub ext_recorded : (m : Message) (s : Station) → Ext s (recorded m s)
-ext_recorded m s = record {
+pub ext_with_message : (m : Message) (s : Station) → Ext s (with_message m s)
+ext_with_message m s = record {
   prepared = λ x y e. e;
   proposed = λ x y e. e;
   committed = λ b e. e;
@@ -37,7 +38,8 @@ only_if : (b : Bool) (v w : ℕ) → cond b (some v) none ≡ some w → (b ≡ 
 only_if true v w e = (refl, some_is v w e)
 only_if false v w e = absurd (none_some e)
 
-passes_first : (P : ℕ → Bool) (x y : Option ℕ) → passes P x ≡ true → passes P (first x y) ≡ true
+passes_first : (P : ℕ → Bool) (x y : Option ℕ) → option_map_or P x false ≡ true
+    → option_map_or P (option_or x y) false ≡ true
 passes_first P none y e = absurd (clash e refl)
 passes_first P (some v) y e = e
 
@@ -80,9 +82,9 @@ module _ (m : Message) where
       let x = (t c).committed (eqb-true m.kind 3 f.0) in
       rw (a, c) at x
 
-  pub good_recorded : (g : Setting) → Laws g.rule → (W W' : World) (i : ℕ) (s : Station) → Grow W W' → Good g W i s
-      → (Own g m.sender → Sent W m) → Good g W' i (recorded m s)
-  good_recorded g laws W W' i s w d₀ t₀ =
+  pub good_with_message : (g : Setting) → Laws g.rule → (W W' : World) (i : ℕ) (s : Station) → Grow W W' → Good g W i s
+      → (Own g m.sender → Sent W m) → Good g W' i (with_message m s)
+  good_with_message g laws W W' i s w d₀ t₀ =
       let d = good_grows g W W' i s w d₀ in
       let t : (j : ℕ) → Own g j → m.sender ≡ j → Sent W' m = λ j o e. sent_grows W W' m w (t₀ (rw e o)) in
       record {
@@ -90,7 +92,7 @@ module _ (m : Message) where
           | inl h ↦ d.heard_prepare σ v j o h
           | inr h ↦ said_prepare W' σ v j (t j o) h
         ];
-        heard_propose = λ σ v j o e. elim (first_cases (s.proposal σ j) (proposes σ j) v e) [
+        heard_propose = λ σ v j o e. elim (option_or-cases (s.proposal σ j) (proposes σ j) v e) [
           | inl h ↦ d.heard_propose σ v j o h
           | inr h ↦ said_propose W' σ v j (t j o) h.1
         ];
@@ -102,7 +104,7 @@ module _ (m : Message) where
         admitted = λ x y e. let k = d.admitted x y e in (
           k.0,
           k.1,
-          quorum_grows g laws (s.preparers x y) ((recorded m s).preparers x y)
+          quorum_grows g laws (s.preparers x y) ((with_message m s).preparers x y)
               (λ j h z. or_left (s.preparers x y j) (prepares x y j) z) k.2,
         );
         first_admitted = d.first_admitted;
@@ -113,8 +115,8 @@ module _ (m : Message) where
         opened = d.opened;
         closed = λ x h. let k = d.closed x h in record {
           set = k.set;
-          quorum = quorum_grows g laws (λ j. passes k.set (s.proposal x j))
-              (λ j. passes k.set ((recorded m s).proposal x j))
+          quorum = quorum_grows g laws (proposers s x k.set)
+              (proposers (with_message m s) x k.set)
               (λ j h z. passes_first k.set (s.proposal x j) (proposes x j) z) k.quorum;
           admitted = k.admitted;
           next = k.next;
@@ -123,6 +125,6 @@ module _ (m : Message) where
         graded = d.graded;
         committed = d.committed;
         commits = d.commits;
-        decided = λ b e. blocking_grows g laws (s.committers b) ((recorded m s).committers b)
+        decided = λ b e. blocking_grows g laws (s.committers b) ((with_message m s).committers b)
             (λ j h z. or_left (s.committers b j) (commits b j) z) (d.decided b e);
       }

@@ -1,7 +1,7 @@
 -- An own station is in the state that the rules give for its opening bit and its history.
 use Rattle.std.proofs.Common.{◌≡◌, ℕ, true, cond, eqb, List, [], ◌∷◌, ◌++◌, sym, refl, ◌∙◌, subst, inl, inr}
-use Rattle.agreement.specs.Station.{Setting, size, stages, Own, Station, heard, after}
-use Rattle.agreement.specs.Rig.{Rig, Call, Step, Plays, Changes, told}
+use Rattle.agreement.specs.Station.{Setting, size, stages, Own, Station, after_message, after_act}
+use Rattle.agreement.specs.Rig.{Rig, Call, Step, Plays, Changes, addressee_after}
 use Rattle.agreement.specs.Rig.{Answer, acted, delivered, sent, lost, repeated, refused}
 use Rattle.agreement.specs.Law.{Event, hears, does, events, history, Gives}
 use Rattle.agreement.specs.Theorems.{StationsFollowRules}
@@ -12,8 +12,8 @@ use Rattle.agreement.proofs.Facts.{opens_with}
 -- one history after another
 gives_on : (g : Setting) (es fs : List Event) (s t u : Station) → Gives g s es t → Gives g t fs u → Gives g s (es ++ fs) u
 gives_on g [] fs s t u p q = subst (λ x. Gives g x fs u) p q
-gives_on g (hears m ∷ es) fs s t u p q = gives_on g es fs (heard (size g) (stages g) m s) t u p q
-gives_on g (does a ∷ es) fs s t u p q = (p.0, gives_on g es fs (after g a s) t u p.1 q)
+gives_on g (hears m ∷ es) fs s t u p q = gives_on g es fs (after_message (size g) (stages g) m s) t u p q
+gives_on g (does a ∷ es) fs s t u p q = (p.0, gives_on g es fs (after_act g a s) t u p.1 q)
 
 -- a call in which something happened to station k alone
 happened : (g : Setting) (i k : ℕ) (e : Event) (s : Station) (W W' : ℕ → Station) → Changes k s W W'
@@ -30,10 +30,10 @@ happened g i k e s W W' c new = elim (same? k i) [
 module _ (g : Setting) (i : ℕ) (o : Own g i) where
   gives_step : (c : Call) (a : Answer) (r r' : Rig) → Step g c a r r' → Gives g (r.station i) (events i a) (r'.station i)
   gives_step c (acted k a) r r' s =
-      happened g i k (does a) (after g a (r.station k)) r.station r'.station s.1.stations
-      (λ e. subst (λ x. Gives g (r.station x) (does a ∷ []) (after g a (r.station k))) e (s.1.due, refl))
+      happened g i k (does a) (after_act g a (r.station k)) r.station r'.station s.1.stations
+      (λ e. subst (λ x. Gives g (r.station x) (does a ∷ []) (after_act g a (r.station k))) e (s.1.due, refl))
   gives_step c (delivered m b) r r' s =
-      happened g i m.addressee (hears m) (told g m (r.station m.addressee)) r.station r'.station
+      happened g i m.addressee (hears m) (addressee_after g m (r.station m.addressee)) r.station r'.station
       s.2.stations (λ e. rw (e, own_is g i o) refl)
   gives_step c sent r r' s = s.4.3.0 i
   gives_step c (lost m) r r' s = s.2.1.0 i

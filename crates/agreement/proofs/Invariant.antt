@@ -2,14 +2,15 @@
 use Rattle.std.proofs.Common.{◌≡◌, ℕ, Bool, true, ◌&&◌, ◌⊎◌, ◌∷◌, Some as some, sym, refl, ◌∙◌, subst, inl, inr, arith}
 use Rattle.agreement.specs.declared.message.Message.{Message}
 use Rattle.agreement.specs.Messages.{Same, Payload, prepare, propose, commit, message}
-use Rattle.agreement.specs.Station.{Setting, Own, own, fresh}
+use Rattle.agreement.specs.Station.{Setting, Own, is_own, fresh_station}
 use Rattle.agreement.specs.Rig.{Rig, Opened, Stays, Lost}
+use Rattle.agreement.specs.Theorems.{Does}
 use Rattle.agreement.proofs.Tests.{clash, and_both}
 use Rattle.agreement.proofs.Closing.{none_some, open_le}
 use Rattle.agreement.proofs.Own.{own_is}
 use Rattle.agreement.proofs.Facts.{opens_with, World, Good, ext_refl, Grow, good_same}
 use Rattle.agreement.proofs.Hear.{Sent, sent_grows}
-use Rattle.agreement.proofs.Says.{Does, Hears}
+use Rattle.agreement.proofs.Says.{Hears}
 use Rattle.agreement.proofs.Waiting.{message_from, message_to, Waits, nothing_waits, waits_tail, waits_cases, waits_same}
 
 -- what own j has done, own i has heard, or the message that says so waits
@@ -25,7 +26,7 @@ pub record Inv (g : Setting) (r : Rig) : Type 0 where
   pub last : (m : Message) → r.last ≡ some m → Own g m.sender → Sent r.station m
   pub reach : r.missing ≡ 0 → (i j : ℕ) → Own g i → Own g j → Reaches r i j
 
-good_fresh : (g : Setting) (W : World) (i : ℕ) → Good g W i (fresh (g.opens i))
+good_fresh : (g : Setting) (W : World) (i : ℕ) → Good g W i (fresh_station (g.opens i))
 good_fresh g W i = record {
   heard_prepare = λ σ v j o e. absurd (clash e refl);
   heard_propose = λ σ v j o e. absurd (none_some e);
@@ -45,7 +46,7 @@ good_fresh g W i = record {
   decided = λ b e. absurd (none_some e);
 }
 
-fresh_does : (b : Bool) (p : Payload) → Does (fresh b) p → ⊥
+fresh_does : (b : Bool) (p : Payload) → Does (fresh_station b) p → ⊥
 fresh_does b (prepare σ v) e = clash e refl
 fresh_does b (propose σ v) e = none_some e
 fresh_does b (commit c) e = none_some e
@@ -113,9 +114,9 @@ module _ (g : Setting) (r r' : Rig) (v : Inv g r) (same : Stays r r') where
       -- a lost message from own to own would be missing
       counted : r'.missing ≡ 0 → (i j : ℕ) → Own g i → Own g j → (p : Payload) → message j i p ≡ m → ⊥
       counted z i j oi oj p e =
-          let both : (own g (message j i p).sender && own g (message j i p).addressee) ≡ true
+          let both : (is_own g (message j i p).sender && is_own g (message j i p).addressee) ≡ true
           = rw (message_from j i p, message_to j i p) (and_both (own_is g j oj) (own_is g i oi)) in
-          let b : (own g m.sender && own g m.addressee) ≡ true
-          = subst (λ (x : Message). (own g x.sender && own g x.addressee) ≡ true) e both in
+          let b : (is_own g m.sender && is_own g m.addressee) ≡ true
+          = subst (λ (x : Message). (is_own g x.sender && is_own g x.addressee) ≡ true) e both in
           let k = rw b at c.2 in
           omega (arith, k)

@@ -20,9 +20,11 @@ pub mod Due
 pub mod Exact
 pub mod Liveness
 pub mod Ending
-pub mod Decisions
+pub mod Lasting
 pub mod Histories
 pub mod Cost
+pub mod Missing
 pub mod Within
 pub mod EveryRun
 pub mod Example
+pub mod Guests

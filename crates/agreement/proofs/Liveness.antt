@@ -1,15 +1,16 @@
 -- In a quiet rig with nothing missing no own station stays behind.
-use Rattle.std.proofs.Common.{◌≡◌, ℕ, zero, suc, ◌+◌, ◌<◌, ◌≤◌, true, Option, sym, refl, subst, inl, inr, arith}
+use Rattle.std.proofs.Common.{◌≡◌, ℕ, zero, suc, ◌+◌, ◌<◌, ◌≤◌, true, refl, inl, inr, arith}
 use Rattle.agreement.specs.Messages.{Payload, prepare, propose}
 use Rattle.agreement.specs.Sets.{Set, without}
 use Rattle.agreement.specs.Families.{Laws, Blocking}
-use Rattle.agreement.specs.Station.{Setting, stages, Own, passes, backers}
+use Rattle.agreement.specs.Station.{Setting, stages, Own, proposers}
 use Rattle.agreement.specs.Station.{Idle, opening, joining, admitting, closing}
 use Rattle.agreement.specs.Law.{Wide}
+use Rattle.agreement.specs.Theorems.{Does}
 use Rattle.agreement.proofs.Tests.{true_or_false, and_not, same?, apart_lt}
 use Rattle.agreement.proofs.Own.{blocking_grows, own_quorum}
 use Rattle.agreement.proofs.Facts.{World, Good}
-use Rattle.agreement.proofs.Says.{Does, Hears}
+use Rattle.agreement.proofs.Says.{Hears}
 use Rattle.agreement.proofs.Due.{some_proposal_set}
 
 -- the own stations that prepared the value
@@ -80,11 +81,12 @@ module _ (g : Setting) (laws : Laws g.rule) (wide : Wide g) (W : World) (rest : 
   closes : (σ : ℕ) → AllAt g W σ → σ < stages g → Live g W σ → (i : ℕ) → Own g i → σ + 1 ≤ (W i).stage
   closes σ here e live i o = elim (same? σ (W i).stage) [
     | inl k ↦ let set = some_proposal_set g (W i) σ in
-        absurd (rest.idle i o (closing σ set.0) (k, e, own_quorum g laws wide (backers (W i) σ) backs, set.1))
+        let q = own_quorum g laws wide (proposers (W i) σ ((W i).admitted σ)) backs in
+        absurd (rest.idle i o (closing σ set.0) (k, e, q, set.1))
     | inr k ↦ omega (arith, apart_lt σ (W i).stage (here i o) k)
   ]
     where
-      backs : (j : ℕ) → Own g j → backers (W i) σ j ≡ true
+      backs : (j : ℕ) → Own g j → proposers (W i) σ ((W i).admitted σ) j ≡ true
       backs j oj =
           let one = live.one in
           let a = admits j σ one.0 oj here e one.1 one.2 in
@@ -92,7 +94,7 @@ module _ (g : Setting) (laws : Laws g.rule) (wide : Wide g) (W : World) (rest : 
           let aw = (rest.good j oj).first_admitted σ w.0 w.1 in
           let mine = admits i σ w.0 o here e ((rest.good j oj).admitted σ w.0 aw).1 (live.spread j w.0 oj aw) in
           let said = rest.hears i j o oj (propose σ w.0) w.1 in
-          subst (λ (x : Option ℕ). passes ((W i).admitted σ) x ≡ true) (sym said) mine
+          rw said mine
 
   -- where every stage that all come to is live, all come to the end
   pub finished : ((σ : ℕ) → AllAt g W σ → σ < stages g → Live g W σ) → (k : ℕ) → Own g k → (W k).stage ≡ stages g

@@ -2,13 +2,13 @@
 use Rattle.std.proofs.Common.{◌≡◌, ℕ, Bool, true, false, not, ◌||◌, ◌⊎◌, refl, arith}
 use Rattle.agreement.specs.Sets.{Set, Part, Some, both, outside, without}
 use Rattle.agreement.specs.Families.{Laws, Blocking, Quorum}
-use Rattle.agreement.specs.Station.{Setting, size, Own, own}
+use Rattle.agreement.specs.Station.{Setting, size, Own, is_own}
 use Rattle.agreement.specs.Law.{Wide, Narrow}
 use Rattle.agreement.proofs.Tests.{and_not}
 use Rattle.agreement.proofs.Quorums.{quorums_meet, quorum_blocks, blocking_reaches_out, quorum_reaches_out}
 use Rattle.agreement.proofs.Quorums.{complement_suffices, one_blocks, upward_closed}
 
-pub own_is : (g : Setting) (i : ℕ) → Own g i → own g i ≡ true
+pub own_is : (g : Setting) (i : ℕ) → Own g i → is_own g i ≡ true
 own_is g i o = let h = o.0 in let k = o.1 in grind arith
 
 -- an own station of the set

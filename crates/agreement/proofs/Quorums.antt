@@ -2,8 +2,8 @@
 use Rattle.std.proofs.Common.{◌≡◌, ℕ, ◌<◌, Bool, true, false, not, ◌&&◌, ◌||◌, ltb, refl, inl, inr, arith, lt-ltb}
 use Rattle.agreement.specs.Sets.{Set, Some, both, below, outside, without}
 use Rattle.agreement.specs.Families.{Families, Blocking}
-use Rattle.agreement.specs.Families.{QuorumsMeet, QuorumBlocks, BlockingReachesOut, QuorumReachesOut}
-use Rattle.agreement.specs.Families.{ComplementSuffices, OneBlocks, UpwardClosed, ClosedIgnores}
+use Rattle.agreement.specs.Quorums.{QuorumsMeet, QuorumBlocks, BlockingReachesOut, QuorumReachesOut}
+use Rattle.agreement.specs.Quorums.{ComplementSuffices, OneBlocks, UpwardClosed, ClosedIgnores}
 use Rattle.agreement.proofs.Tests.{true_or_false, clash, same_truth, and_both, and_right}
 use Rattle.agreement.proofs.Sets.{find}
 

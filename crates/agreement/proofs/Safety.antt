@@ -1,7 +1,7 @@
 -- What the invariant says of closed stages, gradings, commitments and decisions.
 use Rattle.std.proofs.Common.{◌≡◌, ℕ, zero, suc, ◌+◌, ◌-◌, ◌*◌, ◌%◌, ◌<◌, ◌≤◌, Bool, true, ◌||◌, Some as some, None as none, Option, sym, ap, ◌∙◌, subst, inl, inr, add-one, arith}
 use Rattle.agreement.specs.Families.{Laws}
-use Rattle.agreement.specs.Station.{Setting, Own, Grading, bit, passes, grade, at_two}
+use Rattle.agreement.specs.Station.{Setting, Own, Grading, bit, grading_of, bit_at_two, proposers}
 use Rattle.agreement.specs.Law.{Wide, Narrow, Near}
 use Rattle.agreement.proofs.Tests.{same?, and_split, or_cases, le_or}
 use Rattle.agreement.proofs.Closing.{some_is, passes_value, bit_of, makes_odd, follows_even, follows_three, grade_bit}
@@ -32,13 +32,13 @@ module _ (g : Setting) (laws : Laws g.rule) (wide : Wide g) (W : World)
   set_holds : (i σ : ℕ) (o : Own g i) (h : σ < (W i).stage) → (v : ℕ) × (((all i o).closed σ h).set v ≡ true)
   set_holds i σ o h =
       let c = (all i o).closed σ h in
-      let q = quorum_own g laws wide (λ j. passes c.set ((W i).proposal σ j)) c.quorum in
+      let q = quorum_own g laws wide (proposers (W i) σ c.set) c.quorum in
       let a = passes_value c.set ((W i).proposal σ q.0) q.2 in
       (a.0, a.2)
 
   -- where all own inputs are one bit, every closed set holds that bit alone
   unanimous_set : (σ : ℕ) (b : Bool) → Unanimous g W σ (bit b) → (i : ℕ) (o : Own g i) (h : σ < (W i).stage)
-      → grade ((all i o).closed σ h).set ≡ (some (bit b), 2)
+      → grading_of ((all i o).closed σ h).set ≡ (some (bit b), 2)
   unanimous_set σ b u i o h =
       let P = ((all i o).closed σ h).set in
       let only : (w : ℕ) → P w ≡ true → w ≡ bit b
@@ -69,10 +69,10 @@ module _ (g : Setting) (laws : Laws g.rule) (wide : Wide g) (W : World)
 
   -- a grading is that of the closed set
   graded_set : (i σ : ℕ) (x : Grading) (o : Own g i) → σ % 2 ≡ 1 → (W i).grading σ ≡ some x
-      → (h : σ < (W i).stage) × (grade ((all i o).closed σ h).set ≡ x)
+      → (h : σ < (W i).stage) × (grading_of ((all i o).closed σ h).set ≡ x)
   graded_set i σ x o odd e =
       let h = (all i o).graded σ x e in let c = (all i o).closed σ h in
-      let q : some (grade c.set) ≡ some x = sym (makes_odd σ c.set odd) ∙ (sym c.graded ∙ e) in
+      let q : some (grading_of c.set) ≡ some x = sym (makes_odd σ c.set odd) ∙ (sym c.graded ∙ e) in
       (h, cc)
 
   -- a decision is an own station's commitment
@@ -103,8 +103,8 @@ module _ (g : Setting) (laws : Laws g.rule) (wide : Wide g) (W : World)
     sets_share i k σ oi ok hi hk =
         let a = (all i oi).closed σ hi in let b = (all k ok).closed σ hk in
         let m = quorums_share g laws narrow
-        (λ j. passes a.set ((W i).proposal σ j)) (λ j. passes b.set ((W k).proposal σ j)) a.quorum b.quorum in
-        let both = and_split (passes a.set ((W i).proposal σ m.0)) (passes b.set ((W k).proposal σ m.0)) m.2 in
+        (proposers (W i) σ a.set) (proposers (W k) σ b.set) a.quorum b.quorum in
+        let both = and_split (proposers (W i) σ a.set m.0) (proposers (W k) σ b.set m.0) m.2 in
         let x = passes_value a.set ((W i).proposal σ m.0) both.0 in
         let y = passes_value b.set ((W k).proposal σ m.0) both.1 in
         let ex = (all i oi).heard_propose σ x.0 m.0 m.1 x.1 in
@@ -118,7 +118,7 @@ module _ (g : Setting) (laws : Laws g.rule) (wide : Wide g) (W : World)
 
     -- an input after an even stage is what its set left
     even_input : (σ u : ℕ) → σ % 2 ≡ 1 → (a : Origin g W σ u)
-        → (h : σ - 1 < (W a.0).stage) × (u ≡ at_two (grade ((all a.0 a.1).closed (σ - 1) h).set) 2)
+        → (h : σ - 1 < (W a.0).stage) × (u ≡ bit_at_two (grading_of ((all a.0 a.1).closed (σ - 1) h).set) 2)
     even_input σ u odd a =
         let here : (σ - 1) + 1 ≡ σ = omega arith in
         let h : σ - 1 < (W a.0).stage = omega (arith, a.2) in
@@ -135,8 +135,8 @@ module _ (g : Setting) (laws : Laws g.rule) (wide : Wide g) (W : World)
         let P = ((all a.0 a.1).closed (σ - 1) p.0).set in
         let Q = ((all b.0 b.1).closed (σ - 1) q.0).set in
         let s = sets_share a.0 b.0 (σ - 1) a.1 b.1 p.0 q.0 in
-        let ep : s.0 ≡ at_two (grade P) 2 = sole_only P (subst (λ x. x ≤ 1) p.1 hu) s.0 s.1 s.2 in
-        let eq : s.0 ≡ at_two (grade Q) 2 = sole_only Q (subst (λ x. x ≤ 1) q.1 hv) s.0 s.1 s.3 in
+        let ep : s.0 ≡ bit_at_two (grading_of P) 2 = sole_only P (subst (λ x. x ≤ 1) p.1 hu) s.0 s.1 s.2 in
+        let eq : s.0 ≡ bit_at_two (grading_of Q) 2 = sole_only Q (subst (λ x. x ≤ 1) q.1 hv) s.0 s.1 s.3 in
         p.1 ∙ (sym ep ∙ (eq ∙ sym q.1))
 
     -- gradings agree
@@ -151,20 +151,20 @@ module _ (g : Setting) (laws : Laws g.rule) (wide : Wide g) (W : World)
           | inr t ↦ set_origin k σ u ok b.0 t
         ] in
         let s = sets_share i k σ oi ok a.0 b.0 in
-        let r : Near (grade P) (grade Q) = share_near P Q
+        let r : Near (grading_of P) (grading_of Q) = share_near P Q
         (λ u v eu ev hu hv. one_bit σ odd u v (from u eu) (from v ev) hu hv) s.0 s.1 s.2 s.3 in
-        subst (λ z. Near x z) b.1 (subst (λ z. Near z (grade Q)) a.1 r)
+        subst (λ z. Near x z) b.1 (subst (λ z. Near z (grading_of Q)) a.1 r)
 
     -- after a grade 2 in the second half all go on with that bit
     two_unanimous : (i ρ b : ℕ) → Own g i → (W i).grading (4 * ρ + 3) ≡ some (some b, 2) → Unanimous g W (4 * ρ + 3 + 1) b
     two_unanimous i ρ b o e k ok h =
         let hk : 4 * ρ + 3 < (W k).stage = omega arith in
         let c = (all k ok).closed (4 * ρ + 3) hk in
-        let made : (W k).grading (4 * ρ + 3) ≡ some (grade c.set)
+        let made : (W k).grading (4 * ρ + 3) ≡ some (grading_of c.set)
         = c.graded ∙ makes_odd (4 * ρ + 3) c.set (omega arith) in
-        let a = gradings_near i k (4 * ρ + 3) (some b, 2) (grade c.set) o ok (omega arith) e made in
+        let a = gradings_near i k (4 * ρ + 3) (some b, 2) (grading_of c.set) o ok (omega arith) e made in
         c.next ∙ (follows_three g (4 * ρ + 3) c.set ((W k).input (4 * ρ + 3 - 1)) (omega arith)
-        ∙ beside_two b (grade c.set) ((W k).input (4 * ρ + 3 - 1)) a)
+        ∙ beside_two b (grading_of c.set) ((W k).input (4 * ρ + 3 - 1)) a)
 
     graded_bit : (i σ b m : ℕ) → Own g i → σ % 2 ≡ 1 → (W i).grading σ ≡ some (some b, m) → b ≤ 1
     graded_bit i σ b m o odd e =

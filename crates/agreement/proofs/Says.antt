@@ -1,20 +1,16 @@
 -- What a station has said and heard, by payload: so that delivery is one statement.
-use Rattle.std.proofs.Common.{◌≡◌, ℕ, ◌+◌, ◌*◌, ◌<◌, ◌≤◌, Bool, true, cond, ◌&&◌, ◌||◌, eqb, ltb, leb, ◌⊎◌, Some as some, None as none, Option, sym, refl, ap, ◌∙◌, subst, inl, inr, arith, lt-ltb}
+use Rattle.std.proofs.Common.{◌≡◌, ℕ, ◌+◌, ◌*◌, ◌<◌, ◌≤◌, Bool, true, cond, if◌then◌else◌, ◌&&◌, ◌||◌, eqb, ltb, leb, ◌⊎◌, Some as some, None as none, Option, option_map, is_none, sym, refl, ap, ◌∙◌, subst, inl, inr, arith, lt-ltb}
+use Rattle.std.specs.Option.{option_or}
 use Rattle.agreement.specs.declared.message.Message.{Message}
 use Rattle.agreement.specs.Messages.{Payload, prepare, propose, commit, message}
-use Rattle.agreement.specs.Station.{Setting, size, stages, Own, Station, grade, first, heeded, recorded}
-use Rattle.agreement.specs.Station.{Act, opening, joining, admitting, closing, deciding, after, speech, news, commits}
-use Rattle.agreement.proofs.Tests.{or_left, or_right, and_both, added, adds, eqb_same, same?}
-use Rattle.agreement.proofs.Closing.{none_some, some_is, first_cases, first_keeps, grade_bit, makes_odd}
+use Rattle.agreement.specs.Station.{Setting, size, stages, Own, Station, grading_of, is_heeded, with_message}
+use Rattle.agreement.specs.Station.{Act, opening, joining, admitting, closing, deciding, Applies, after_act, speech, bit_to_commit}
+use Rattle.agreement.specs.Theorems.{Does, SaidOnce}
+use Rattle.agreement.proofs.Tests.{clash, or_left, or_right, and_both, added, adds, eqb_same, same?}
+use Rattle.agreement.proofs.Closing.{none_some, some_is, option_or-cases, option_or-keeps, grade_bit, makes_odd}
 use Rattle.agreement.proofs.Facts.{World, Good}
 use Rattle.agreement.proofs.Acts.{proposed_at}
 use Rattle.agreement.proofs.Hear.{Sent}
-
--- the station has done so
-abbrev pub Does : Station → Payload → Type 0
-Does s (prepare σ v) = s.prepared σ v ≡ true
-Does s (propose σ v) = s.proposed σ ≡ some v
-Does s (commit b) = s.committed ≡ some b
 
 -- the station has heard so from j
 abbrev pub Hears : Station → ℕ → Payload → Type 0
@@ -28,45 +24,42 @@ record Deaf (s s' : Station) : Type 0 where
   proposal : s'.proposal ≡ s.proposal
   committers : s'.committers ≡ s.committers
 
-deaf : (g : Setting) (a : Act) (s : Station) → Deaf s (after g a s)
+deaf : (g : Setting) (a : Act) (s : Station) → Deaf s (after_act g a s)
 deaf g (opening σ v) s = record { preparers = refl; proposal = refl; committers = refl }
-deaf g (joining σ v) s = record { preparers = refl; proposal = refl; committers = refl }
-deaf g (admitting σ v) s = record { preparers = refl; proposal = refl; committers = refl }
-deaf g (closing σ P) s = record { preparers = refl; proposal = refl; committers = refl }
-deaf g (deciding b) s = record { preparers = refl; proposal = refl; committers = refl }
+deaf g a s = record { preparers = refl; proposal = refl; committers = refl }
 
-pub hears_after : (g : Setting) (a : Act) (s : Station) (j : ℕ) (p : Payload) → Hears s j p → Hears (after g a s) j p
+pub hears_after : (g : Setting) (a : Act) (s : Station) (j : ℕ) (p : Payload) → Hears s j p → Hears (after_act g a s) j p
 hears_after g a s j (prepare σ v) h = ap (λ (f : ℕ → ℕ → ℕ → Bool). f σ v j) (deaf g a s).preparers ∙ h
 hears_after g a s j (propose σ v) h = ap (λ (f : ℕ → ℕ → Option ℕ). f σ j) (deaf g a s).proposal ∙ h
 hears_after g a s j (commit b) h = ap (λ (f : ℕ → ℕ → Bool). f b j) (deaf g a s).committers ∙ h
 
-pub hears_recorded : (m : Message) (s : Station) (j : ℕ) (p : Payload) → Hears s j p → Hears (recorded m s) j p
-hears_recorded m s j (prepare σ v) h =
+pub hears_with_message : (m : Message) (s : Station) (j : ℕ) (p : Payload) → Hears s j p → Hears (with_message m s) j p
+hears_with_message m s j (prepare σ v) h =
     or_left (s.preparers σ v j) (eqb m.kind 1 && (eqb m.stage σ && (eqb m.value v && eqb m.sender j))) h
-hears_recorded m s j (propose σ v) h =
-    first_keeps (s.proposal σ j)
+hears_with_message m s j (propose σ v) h =
+    option_or-keeps (s.proposal σ j)
     (cond (eqb m.kind 2 && (eqb m.stage σ && eqb m.sender j)) (some m.value) none) v h
-hears_recorded m s j (commit b) h =
+hears_with_message m s j (commit b) h =
     or_left (s.committers b j) (eqb m.kind 3 && (eqb m.value b && eqb m.sender j)) h
 
-pub does_recorded : (m : Message) (s : Station) (p : Payload) → Does (recorded m s) p → Does s p
-does_recorded m s (prepare σ v) h = h
-does_recorded m s (propose σ v) h = h
-does_recorded m s (commit b) h = h
+pub does_with_message : (m : Message) (s : Station) (p : Payload) → Does (with_message m s) p → Does s p
+does_with_message m s (prepare σ v) h = h
+does_with_message m s (propose σ v) h = h
+does_with_message m s (commit b) h = h
 
 -- a recorded message is heard, if an earlier proposal of its sender was the same
-pub recorded_hears : (j i : ℕ) (s : Station) (p : Payload)
-    → ((σ w : ℕ) → s.proposal σ j ≡ some w → (v : ℕ) → p ≡ propose σ v → w ≡ v) → Hears (recorded (message j i p) s) j p
-recorded_hears j i s (prepare σ v) u =
+pub with_message-hears : (j i : ℕ) (s : Station) (p : Payload)
+    → ((σ w : ℕ) → s.proposal σ j ≡ some w → (v : ℕ) → p ≡ propose σ v → w ≡ v) → Hears (with_message (message j i p) s) j p
+with_message-hears j i s (prepare σ v) u =
     or_right (s.preparers σ v j) (eqb σ σ && (eqb v v && eqb j j))
     (and_both (eqb_same σ) (and_both (eqb_same v) (eqb_same j)))
-recorded_hears j i s (propose σ v) u = go (s.proposal σ j) refl
+with_message-hears j i s (propose σ v) u = go (s.proposal σ j) refl
   where
     go : (o : Option ℕ) → s.proposal σ j ≡ o
-        → first (s.proposal σ j) (cond (eqb σ σ && eqb j j) (some v) none) ≡ some v
+        → option_or (s.proposal σ j) (cond (eqb σ σ && eqb j j) (some v) none) ≡ some v
     go none e = rw (e, eqb_same σ, eqb_same j) refl
     go (some w) e = rw e (ap {B = Option ℕ} some (u σ w e v refl))
-recorded_hears j i s (commit b) u =
+with_message-hears j i s (commit b) u =
     or_right (s.committers b j) (eqb b b && eqb j j) (and_both (eqb_same b) (eqb_same j))
 
 -- what a station prepares anew, it says
@@ -75,55 +68,66 @@ prepares_new : (σ v x y : ℕ) (s : Station) → (s.prepared x y || (eqb x σ &
 prepares_new σ v x y s h = elim (added (s.prepared x y) x y σ v h) [ inl e ↦ inl e | inr e ↦ inr (rw (e.0, e.1) refl) ]
 
 -- what an act makes it do anew, the act says
-pub speaks : (g : Setting) (a : Act) (s : Station) (p : Payload) → Does (after g a s) p
+pub speaks : (g : Setting) (a : Act) (s : Station) (p : Payload) → Does (after_act g a s) p
     → Does s p ⊎ (speech a s ≡ some p)
 speaks g (opening σ v) s (prepare x y) h = prepares_new σ v x y s h
-speaks g (opening σ v) s (propose x y) h = inl h
-speaks g (opening σ v) s (commit b) h = inl h
 speaks g (joining σ v) s (prepare x y) h = prepares_new σ v x y s h
-speaks g (joining σ v) s (propose x y) h = inl h
-speaks g (joining σ v) s (commit b) h = inl h
-speaks g (admitting σ v) s (prepare x y) h = inl h
 speaks g (admitting σ v) s (propose x y) h = elim (same? x σ) [
-  | inl e ↦ elim (first_cases (s.proposed σ) (some v) y (sym (proposed_at g σ v s x e) ∙ h)) [
+  | inl e ↦ elim (option_or-cases (s.proposed σ) (some v) y (sym (proposed_at g σ v s x e) ∙ h)) [
     | inl p ↦ inl (rw e p)
     | inr p ↦ inr (rw p.0 (rw (e, some_is v y p.1) refl))
   ]
   | inr e ↦ inl (rw e at h)
 ]
-speaks g (admitting σ v) s (commit b) h = inl h
-speaks g (closing σ P) s (prepare x y) h = inl h
-speaks g (closing σ P) s (propose x y) h = inl h
-speaks g (closing σ P) s (commit b) h = elim (first_cases s.committed (commits σ P) b h) [
+speaks g (closing σ P) s (commit b) h = elim (option_or-cases s.committed (bit_to_commit σ P) b h) [
   | inl p ↦ inl p
   | inr p ↦ inr (rw (p.0, p.1) refl)
 ]
-speaks g (deciding c) s (prepare x y) h = inl h
-speaks g (deciding c) s (propose x y) h = inl h
-speaks g (deciding c) s (commit b) h = inl h
+speaks g a s p h = inl h
 
-new_value : (f : ℕ → Payload) (x y : Option ℕ) (p : Payload) → news f x y ≡ some p
-    → (v : ℕ) × (x ≡ none) × (y ≡ some v) × (f v ≡ p)
-new_value f none none p e = absurd (none_some e)
-new_value f none (some v) p e = (v, refl, refl, cc)
-new_value f (some x) none p e = absurd (none_some e)
-new_value f (some x) (some v) p e = absurd (none_some e)
+-- what is said where there was nothing
+said_first : (o : Option ℕ) (x : Option Payload) (p : Payload) → (if is_none o then x else none) ≡ some p
+    → (o ≡ none) × (x ≡ some p)
+said_first none x p e = (refl, e)
+said_first (some u) x p e = absurd (none_some e)
+
+committing : (o : Option ℕ) (p : Payload) → option_map commit o ≡ some p → (b : ℕ) × (o ≡ some b) × (commit b ≡ p)
+committing none p e = absurd (none_some e)
+committing (some b) p e = (b, refl, cc)
 
 -- and what it says, it has done
-pub says_true : (g : Setting) (a : Act) (s : Station) (p : Payload) → speech a s ≡ some p → Does (after g a s) p
+pub says_true : (g : Setting) (a : Act) (s : Station) (p : Payload) → speech a s ≡ some p → Does (after_act g a s) p
 says_true g (opening σ v) s p e =
-    let q : prepare σ v ≡ p = cc in subst (λ x. Does (after g (opening σ v) s) x) q (adds (s.prepared σ v) σ v)
+    let q : prepare σ v ≡ p = cc in subst (λ x. Does (after_act g (opening σ v) s) x) q (adds (s.prepared σ v) σ v)
 says_true g (joining σ v) s p e =
-    let q : prepare σ v ≡ p = cc in subst (λ x. Does (after g (joining σ v) s) x) q (adds (s.prepared σ v) σ v)
+    let q : prepare σ v ≡ p = cc in subst (λ x. Does (after_act g (joining σ v) s) x) q (adds (s.prepared σ v) σ v)
 says_true g (admitting σ v) s p e =
-    let k = new_value (propose σ) (s.proposed σ) (some v) p e in
-    subst (λ x. Does (after g (admitting σ v) s) x) k.3
-    (proposed_at g σ v s σ refl ∙ (ap (λ (x : Option ℕ). first x (some v)) k.1 ∙ k.2))
+    let k = said_first (s.proposed σ) (some (propose σ v)) p e in
+    let q : propose σ v ≡ p = cc k.1 in
+    subst (λ x. Does (after_act g (admitting σ v) s) x) q
+    (proposed_at g σ v s σ refl ∙ ap (λ (x : Option ℕ). option_or x (some v)) k.0)
 says_true g (closing σ P) s p e =
-    let k = new_value commit s.committed (commits σ P) p e in
-    subst (λ x. Does (after g (closing σ P) s) x) k.3
-    (ap (λ (x : Option ℕ). first x (commits σ P)) k.1 ∙ k.2)
+    let k = said_first s.committed (option_map commit (bit_to_commit σ P)) p e in
+    let q = committing (bit_to_commit σ P) p k.1 in
+    subst (λ x. Does (after_act g (closing σ P) s) x) q.2
+    (ap (λ (x : Option ℕ). option_or x (bit_to_commit σ P)) k.0 ∙ q.1)
 says_true g (deciding b) s p e = absurd (none_some e)
+
+-- which it had not done before
+says_new : (g : Setting) (a : Act) (s : Station) (p : Payload) → Applies g s a → speech a s ≡ some p → Does s p → ⊥
+says_new g (opening σ v) s p h e d = let q : p ≡ prepare σ v = cc in clash (rw q at d) h.3
+says_new g (joining σ v) s p h e d = let q : p ≡ prepare σ v = cc in clash (rw q at d) h.3
+says_new g (admitting σ v) s p h e d =
+    let k = said_first (s.proposed σ) (some (propose σ v)) p e in
+    let q : p ≡ propose σ v = cc k.1 in none_some (sym k.0 ∙ (rw q at d))
+says_new g (closing σ P) s p h e d =
+    let k = said_first s.committed (option_map commit (bit_to_commit σ P)) p e in
+    let q = committing (bit_to_commit σ P) p k.1 in
+    none_some (sym k.0 ∙ (rw (sym q.2) at d))
+says_new g (deciding b) s p h e d = none_some e
+
+pub said_once : SaidOnce
+said_once g s a p h = (λ e. (says_new g a s p h e, says_true g a s p e), speaks g a s p)
 
 -- a message of what its sender has done
 pub sent_does : (W : World) (i k : ℕ) (p : Payload) → Does (W i) p → Sent W (message i k p)
@@ -145,13 +149,13 @@ bit_counts v p = grind arith
 pub committed_bit : (g : Setting) (W : World) (i : ℕ) (s : Station) (b : ℕ) → Good g W i s → s.committed ≡ some b → b ≤ 1
 committed_bit g W i s b d e =
     let k = d.committed b e in let c = d.closed (4 * k.0 + 3) k.1 in
-    let u : some (grade c.set) ≡ some (some b, 2)
+    let u : some (grading_of c.set) ≡ some (some b, 2)
     = sym (makes_odd (4 * k.0 + 3) c.set (omega arith)) ∙ (sym c.graded ∙ k.2) in
-    let w : (grade c.set).0 ≡ some b = cc in
+    let w : (grading_of c.set).0 ≡ some b = cc in
     grade_bit (c.set 0) (c.set 1) (c.set 2) b w
 
 pub never_ignored : (g : Setting) (W : World) (j i : ℕ) (s : Station) (p : Payload) → Own g j → Good g W j s → Does s p
-    → heeded (size g) (stages g) (message j i p) ≡ true
+    → is_heeded (size g) (stages g) (message j i p) ≡ true
 never_ignored g W j i s (prepare σ v) o d h =
     let k = d.prepared σ v h in
     and_both (lt-ltb j (size g) o.0) (counts 1 v σ (stages g) (inl refl) k.2 k.1)

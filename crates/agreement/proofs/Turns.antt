@@ -4,29 +4,31 @@ use Rattle.agreement.specs.declared.message.Message.{Message}
 use Rattle.agreement.specs.Messages.{Payload, message}
 use Rattle.agreement.specs.Families.{Laws}
 use Rattle.agreement.specs.Station.{Setting, size, Own, Station, Act, opening, joining, admitting, closing, deciding}
-use Rattle.agreement.specs.Station.{Applies, Due, after, speech}
+use Rattle.agreement.specs.Station.{Applies, Due, after_act, speech}
 use Rattle.agreement.specs.Rig.{Rig, Broadcasts, broadcast, Acted}
 use Rattle.agreement.specs.Law.{Wide}
+use Rattle.agreement.specs.Theorems.{Does}
 use Rattle.agreement.proofs.Tests.{true_or_false}
 use Rattle.agreement.proofs.Own.{blocking_own}
 use Rattle.agreement.proofs.Facts.{World, Origin, Good, Ext, Grow, changed, grow_changes, good_changes}
-use Rattle.agreement.proofs.Acts.{ext_preparing, good_preparing, ext_admitting, good_admitting}
+use Rattle.agreement.proofs.Acts.{ext_with_prepared, good_with_prepared, ext_admitting, good_admitting}
 use Rattle.agreement.proofs.Acts.{ext_deciding, good_deciding}
 use Rattle.agreement.proofs.Close.{ext_closing, good_closing}
 use Rattle.agreement.proofs.Hear.{Sent, sent_grows}
-use Rattle.agreement.proofs.Says.{Does, Hears, hears_after, speaks, says_true, sent_does}
+use Rattle.agreement.proofs.Says.{Hears, hears_after, speaks, says_true, sent_does}
 use Rattle.agreement.proofs.Waiting.{Waits, waits_same, broadcast_keeps, broadcast_new, broadcast_all}
 use Rattle.agreement.proofs.Invariant.{Inv}
 
-ext_after : (g : Setting) (a : Act) (s : Station) → Applies g s a → Ext s (after g a s)
-ext_after g (opening σ v) s p = ext_preparing σ v s
-ext_after g (joining σ v) s p = ext_preparing σ v s
+pub ext_after : (g : Setting) (a : Act) (s : Station) → Applies g s a → Ext s (after_act g a s)
+ext_after g (opening σ v) s p = ext_with_prepared σ v s
+ext_after g (joining σ v) s p = ext_with_prepared σ v s
 ext_after g (admitting σ v) s p = ext_admitting g σ v s
 ext_after g (closing σ P) s p = ext_closing g σ P s p.0
 ext_after g (deciding b) s p = ext_deciding g b s
 
 -- a stage is closed only once its input is prepared
-was_opened : (g : Setting) (s : Station) (σ : ℕ) (P : ℕ → Bool) → Due g s (closing σ P) → s.prepared σ (s.input σ) ≡ true
+pub was_opened : (g : Setting) (s : Station) (σ : ℕ) (P : ℕ → Bool) → Due g s (closing σ P)
+    → s.prepared σ (s.input σ) ≡ true
 was_opened g s σ P d = elim (true_or_false (s.prepared σ (s.input σ))) [
   | inl t ↦ t
   | inr t ↦ absurd (d.1 (opening σ (s.input σ)) (inr (refl, inr (refl, inl (omega arith)))) (d.0.0, d.0.1, refl, t))
@@ -41,13 +43,13 @@ module _ (g : Setting) (laws : Laws g.rule) (wide : Wide g) where
       ((all h.0 h.1).prepared σ v ((all i o).heard_prepare σ v h.0 h.1 h.2)).3
 
   good_after : (W W' : World) → Grow W W' → ((k : ℕ) → Own g k → Good g W k (W k)) → (i : ℕ) → Own g i → (a : Act)
-      → Due g (W i) a → Good g W' i (after g a (W i))
+      → Due g (W i) a → Good g W' i (after_act g a (W i))
   good_after W W' w all i o (opening σ v) d =
       let at = d.0.0 in let e = d.0.2 in let b = ((all i o).inputs σ (omega arith)).0 in
-      good_preparing g W W' i σ v (W i) w (all i o) (omega arith) d.0.1 (omega (arith, b, e))
+      good_with_prepared g W W' i σ v (W i) w (all i o) (omega arith) d.0.1 (omega (arith, b, e))
       (i, o, omega arith, sym e)
   good_after W W' w all i o (joining σ v) d =
-      good_preparing g W W' i σ v (W i) w (all i o) (omega (arith, d.0.0)) d.0.1 d.0.2
+      good_with_prepared g W W' i σ v (W i) w (all i o) (omega (arith, d.0.0)) d.0.1 d.0.2
       (joined W all i σ v o d.0)
   good_after W W' w all i o (admitting σ v) d =
       good_admitting g σ v (W i) W W' i w (all i o) d.0.1 d.0.2 d.0.4
@@ -83,12 +85,12 @@ module _ (g : Setting) (i : ℕ) (r r' : Rig) where
 module _ (g : Setting) (laws : Laws g.rule) (wide : Wide g) (i : ℕ) (a : Act) (r r' : Rig) (v : Inv g r)
     (c : Acted g i a r r') where
   grow : Grow r.station r'.station
-  grow = grow_changes i (after g a (r.station i)) r.station r'.station c.stations
+  grow = grow_changes i (after_act g a (r.station i)) r.station r'.station c.stations
       (ext_after g a (r.station i) c.due.0)
 
   hears_still : (k j : ℕ) (p : Payload) → Hears (r.station k) j p → Hears (r'.station k) j p
   hears_still k j p =
-      changed (λ x t. Hears (r.station x) j p → Hears t j p) i (after g a (r.station i)) r.station r'.station
+      changed (λ x t. Hears (r.station x) j p → Hears t j p) i (after_act g a (r.station i)) r.station r'.station
       c.stations k (λ _. hears_after g a (r.station i) j p) (λ h. h)
 
   -- what is new was said
@@ -96,7 +98,7 @@ module _ (g : Setting) (laws : Laws g.rule) (wide : Wide g) (i : ℕ) (a : Act) 
       → Does (r.station j) p ⊎ ((j ≡ i) × (speech a (r.station i) ≡ some p))
   does_was j p d =
       elim (changed (λ x t. Does t p → Does (r.station x) p ⊎ (speech a (r.station i) ≡ some p)) i
-      (after g a (r.station i)) r.station r'.station c.stations j (λ _. speaks g a (r.station i) p) (λ h. inl h) d) [
+      (after_act g a (r.station i)) r.station r'.station c.stations j (λ _. speaks g a (r.station i) p) (λ h. inl h) d) [
         | inl h ↦ inl h
         | inr h ↦ elim (c.stations.1 j) [
           | inl e ↦ inr (e, h)
@@ -111,20 +113,20 @@ module _ (g : Setting) (laws : Laws g.rule) (wide : Wide g) (i : ℕ) (a : Act) 
 
   pub inv_acted : Inv g r'
   inv_acted = record {
-    good = good_changes g i (after g a (r.station i)) r.station r'.station c.stations
+    good = good_changes g i (after_act g a (r.station i)) r.station r'.station c.stations
         (ext_after g a (r.station i) c.due.0) v.good
         (λ o. good_after g laws wide r.station r'.station grow v.good i o a c.due);
-    waiting = λ x h o. elim (spoken_new g i r r' (speech a (r.station i)) c.broadcast x h) [
+    waiting = λ x h o. elim (spoken_new g i r r' (speech a (r.station i)) c.posts x h) [
       | inl u ↦ sent_grows r.station r'.station x grow (v.waiting x u o)
       | inr u ↦ subst (λ (y : Message). Sent r'.station y) (sym u.2.2) (new_sent u.0 u.2.0 u.1)
     ];
     last = λ x h o. sent_grows r.station r'.station x grow (v.last x (sym c.last ∙ h) o);
     reach = λ z k j ok oj p d. elim (does_was j p d) [
-      | inl d ↦ elim (v.reach (spoken_missing g i r r' (speech a (r.station i)) c.broadcast z) k j ok oj p d) [
+      | inl d ↦ elim (v.reach (spoken_missing g i r r' (speech a (r.station i)) c.posts z) k j ok oj p d) [
         | inl h ↦ inl (hears_still k j p h)
-        | inr h ↦ inr (spoken_keeps g i r r' (speech a (r.station i)) c.broadcast (message j k p) h)
+        | inr h ↦ inr (spoken_keeps g i r r' (speech a (r.station i)) c.posts (message j k p) h)
       ]
       | inr n ↦ inr (subst (λ x. Waits (message x k p) r'.waiting) (sym n.0)
-          (spoken_all g i r r' p (subst (λ (x : Option Payload). Broadcasts g i x r r') n.1 c.broadcast) z k ok))
+          (spoken_all g i r r' p (subst (λ (x : Option Payload). Broadcasts g i x r r') n.1 c.posts) z k ok))
     ];
   }

@@ -2,8 +2,8 @@
 use Rattle.std.proofs.Common.{◌≡◌, ℕ, zero, suc, ◌+◌, ◌<◌, Bool, true, false, cond, ◌&&◌, eqb, ◌⊎◌, List, [], ◌∷◌, sym, refl, ap, ◌∙◌, inl, inr, arith, eqb-true}
 use Rattle.std.proofs.lemmas.List.Sums.{sum_by-cons}
 use Rattle.agreement.specs.declared.message.Message.{Message}
-use Rattle.agreement.specs.Messages.{same, copies, Same, Payload, prepare, propose, commit, message}
-use Rattle.agreement.specs.Station.{Setting, Own, own}
+use Rattle.agreement.specs.Messages.{message_eq, copies, Same, Payload, prepare, propose, commit, message}
+use Rattle.agreement.specs.Station.{Setting, Own, is_own}
 use Rattle.agreement.specs.Rig.{broadcast, strays}
 use Rattle.agreement.specs.Theorems.{Indifferent}
 use Rattle.agreement.proofs.Tests.{true_or_false, clash, and_split, and_both, eqb_same}
@@ -24,13 +24,13 @@ message_to i k (commit b) = refl
 abbrev pub Waits : Message → List Message → Type 0
 Waits m w = 0 < copies m w
 
-same_refl : (m : Message) → same m m ≡ true
-same_refl m =
+message_eq_refl : (m : Message) → message_eq m m ≡ true
+message_eq_refl m =
     and_both (and_both (eqb_same m.sender) (and_both (eqb_same m.addressee) (eqb_same m.kind)))
     (and_both (eqb_same m.stage) (eqb_same m.value))
 
-same_is : (x y : Message) → same x y ≡ true → x ≡ y
-same_is x y e =
+message_eq_is : (x y : Message) → message_eq x y ≡ true → x ≡ y
+message_eq_is x y e =
     let p = and_split (eqb x.sender y.sender && (eqb x.addressee y.addressee && eqb x.kind y.kind))
     (eqb x.stage y.stage && eqb x.value y.value) e in
     let q = and_split (eqb x.sender y.sender) (eqb x.addressee y.addressee && eqb x.kind y.kind) p.0 in
@@ -44,14 +44,14 @@ same_is x y e =
       value = eqb-true x.value y.value t.1 i;
     }
 
-pub copies_more : (x m : Message) (w : List Message) → copies x (m ∷ w) ≡ cond (same x m) 1 0 + copies x w
-copies_more x m w = sum_by-cons (λ y. cond (same x y) 1 0) m w
+pub copies_more : (x m : Message) (w : List Message) → copies x (m ∷ w) ≡ cond (message_eq x m) 1 0 + copies x w
+copies_more x m w = sum_by-cons (λ y. cond (message_eq x y) 1 0) m w
 
-copies_by : (x m : Message) (w : List Message) (b : Bool) → same x m ≡ b → copies x (m ∷ w) ≡ cond b 1 0 + copies x w
+copies_by : (x m : Message) (w : List Message) (b : Bool) → message_eq x m ≡ b → copies x (m ∷ w) ≡ cond b 1 0 + copies x w
 copies_by x m w b e = copies_more x m w ∙ ap (λ (c : Bool). cond c 1 0 + copies x w) e
 
 pub waits_head : (m : Message) (w : List Message) → Waits m (m ∷ w)
-waits_head m w = let e = copies_by m m w true (same_refl m) in omega (arith, e)
+waits_head m w = let e = copies_by m m w true (message_eq_refl m) in omega (arith, e)
 
 pub nothing_waits : (m : Message) (w : List Message) → w ≡ [] → Waits m w → ⊥
 nothing_waits m w e h = let z : Waits m [] = rw e at h in omega (arith, z)
@@ -60,8 +60,8 @@ pub waits_tail : (x m : Message) (w : List Message) → Waits x w → Waits x (m
 waits_tail x m w h = let e = copies_more x m w in omega (arith, e)
 
 pub waits_cases : (x m : Message) (w : List Message) → Waits x (m ∷ w) → (x ≡ m) ⊎ Waits x w
-waits_cases x m w h = elim (true_or_false (same x m)) [
-  | inl t ↦ inl (same_is x m t)
+waits_cases x m w h = elim (true_or_false (message_eq x m)) [
+  | inl t ↦ inl (message_eq_is x m t)
   | inr t ↦ inr (let e = copies_by x m w false t in omega (arith, e))
 ]
 
@@ -92,9 +92,11 @@ module _ (g : Setting) (i : ℕ) (p : Payload) (w : List Message) where
   pub broadcast_keeps : (k : ℕ) (x : Message) → Waits x w → Waits x (broadcast g i p k w)
   broadcast_keeps zero x h = h
   broadcast_keeps (suc k) x h =
-      posted_keeps (g.turns_away (broadcast g i p k w) (message i k p)) x (message i k p) (broadcast g i p k w) (broadcast_keeps k x h)
+      posted_keeps (g.turns_away (broadcast g i p k w) (message i k p)) x (message i k p) (broadcast g i p k w)
+      (broadcast_keeps k x h)
 
-  pub broadcast_new : (k : ℕ) (x : Message) → Waits x (broadcast g i p k w) → Waits x w ⊎ ((a : ℕ) × (a < k) × (x ≡ message i a p))
+  pub broadcast_new : (k : ℕ) (x : Message) → Waits x (broadcast g i p k w)
+      → Waits x w ⊎ ((a : ℕ) × (a < k) × (x ≡ message i a p))
   broadcast_new zero x h = inl h
   broadcast_new (suc k) x h =
       elim (posted_cases (g.turns_away (broadcast g i p k w) (message i k p)) x (message i k p) (broadcast g i p k w) h) [
@@ -103,13 +105,14 @@ module _ (g : Setting) (i : ℕ) (p : Payload) (w : List Message) where
       ]
 
   -- none strayed, so each own station's message waits
-  pub broadcast_all : (k : ℕ) → strays g i p k w ≡ 0 → (a : ℕ) → a < k → Own g a → Waits (message i a p) (broadcast g i p k w)
+  pub broadcast_all : (k : ℕ) → strays g i p k w ≡ 0 → (a : ℕ) → a < k → Own g a
+      → Waits (message i a p) (broadcast g i p k w)
   broadcast_all zero e a h o = absurd (omega arith)
   broadcast_all (suc k) e a h o = last_or (λ x. Own g x → Waits (message i x p) (broadcast g i p (suc k) w)) k a h
       (λ l u. posted_keeps (g.turns_away (broadcast g i p k w) (message i k p)) (message i a p) (message i k p)
       (broadcast g i p k w) (broadcast_all k (omega arith) a l u))
       (λ u. posted_waits (g.turns_away (broadcast g i p k w) (message i k p)) (message i k p) (broadcast g i p k w)
-      (none_away (own g k) (g.turns_away (broadcast g i p k w) (message i k p)) (strays g i p k w) e (own_is g k u))) o
+      (none_away (is_own g k) (g.turns_away (broadcast g i p k w) (message i k p)) (strays g i p k w) e (own_is g k u))) o
 
 -- what is the same in any order: something waits
 pub not_empty : (m : Message) (v w : List Message) → Same v (m ∷ w) → v ≡ [] → ⊥
@@ -140,5 +143,5 @@ same_broadcast g n i p (suc k) v w s =
     let m = message i k p in
     let e = n (broadcast g i p k v) (broadcast g i p k w) m a in (
       rw e (same_posted (g.turns_away (broadcast g i p k w) m) m (broadcast g i p k v) (broadcast g i p k w) a),
-      λ j. b j + cond (own g k && e j) 1 0,
+      λ j. b j + cond (is_own g k && e j) 1 0,
     )

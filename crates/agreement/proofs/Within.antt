@@ -38,10 +38,10 @@ module _ (g : Setting) (r r' : Rig) (w : Within g r) where
 
   within_step : (c : Call) (a : Answer) → Step g c a r r' → Within g r'
   within_step c (acted i a) s = record {
-    waiting = λ x h. elim (spoken_new g i r r' (speech a (r.station i)) s.1.broadcast x h) [
+    waiting = λ x h. elim (spoken_new g i r r' (speech a (r.station i)) s.1.posts x h) [
       | inl u ↦ w.waiting x u
       | inr u ↦ subst (λ (y : Message). Between g y) (sym u.2.2)
-          (rw (message_from i u.2.0 u.0) s.1.own.0, rw (message_to i u.2.0 u.0) u.2.1)
+          (rw (message_from i u.2.0 u.0) s.1.by_own.0, rw (message_to i u.2.0 u.0) u.2.1)
     ];
     last = last_still s.1.last;
   }

@@ -1,11 +1,11 @@
 -- What is claimed of every run of calls on an opened rig.
-use Rattle.std.specs.Prelude.{◌≡◌, ℕ, ◌+◌, ◌*◌, ◌^◌, ◌<◌, ◌≤◌, Bool, true, cond, ◌⊎◌, List, [], ◌∷◌, ◌++◌, Some as some, Option, ◌==◌}
+use Rattle.std.specs.Prelude.{◌≡◌, ℕ, ◌+◌, ◌*◌, ◌^◌, ◌<◌, ◌≤◌, Bool, true, if◌then◌else◌, ◌⊎◌, List, [], ◌∷◌, flat_map, Some as some, Option, ◌==◌}
 use Rattle.agreement.specs.declared.message.Message.{Message}
 use Rattle.agreement.specs.Families.{Laws}
 use Rattle.agreement.specs.Messages.{copies}
-use Rattle.agreement.specs.Station.{Setting, size, stages, Own, bit, Grading, Station, fresh, heard, Act, Idle, Due, after}
+use Rattle.agreement.specs.Station.{Setting, size, stages, Own, bit, Grading, Station, fresh_station, after_message, Act, Idle, Due, after_act}
 use Rattle.agreement.specs.Rig.{Rig, Opened, Call, Plays}
-use Rattle.agreement.specs.Rig.{Answer, acted, delivered, sent, lost, repeated, refused}
+use Rattle.agreement.specs.Rig.{Answer, acted, delivered}
 
 -- What happens to a station: a message comes to it, or it does an act.
 pub data Event : Type 0 where
@@ -14,23 +14,19 @@ pub data Event : Type 0 where
 
 -- What happened to station i in a call, read off its answer.
 abbrev pub events : ℕ → Answer → List Event
-events i (acted k a) = cond (k == i) (does a ∷ []) []
-events i (delivered m change) = cond (m.addressee == i) (hears m ∷ []) []
-events i sent = []
-events i (lost m) = []
-events i (repeated m) = []
-events i (refused k) = []
+events i (acted k a) = if k == i then does a ∷ [] else []
+events i (delivered m change) = if m.addressee == i then hears m ∷ [] else []
+events i other = []
 
 -- What happened to station i in a run, in order.
 abbrev pub history : ℕ → List Answer → List Event
-history i [] = []
-history i (a ∷ answers) = events i a ++ history i answers
+history i answers = flat_map (events i) answers
 
 -- The rules lead a station by its history from state s to state s': each message is heard, each act is the one due.
 abbrev pub Gives : Setting → Station → List Event → Station → Type 0
 Gives g s [] s' = s' ≡ s
-Gives g s (hears m ∷ rest) s' = Gives g (heard (size g) (stages g) m s) rest s'
-Gives g s (does a ∷ rest) s' = Due g s a × Gives g (after g a s) rest s'
+Gives g s (hears m ∷ rest) s' = Gives g (after_message (size g) (stages g) m s) rest s'
+Gives g s (does a ∷ rest) s' = Due g s a × Gives g (after_act g a s) rest s'
 
 -- The guests are tolerated in the wide sense.
 abbrev pub Wide : Setting → Type 0
@@ -45,8 +41,8 @@ abbrev pub OpenAlike : Setting → Bool → Type 0
 OpenAlike g v = (i : ℕ) → Own g i → g.opens i ≡ v
 
 -- The grading that station i made in a round: half 0 after quarter 1, half 1 after quarter 3.
-abbrev pub graded : Rig → ℕ → ℕ → ℕ → Option Grading
-graded r i round half = (r.station i).grading (4 * round + 2 * half + 1)
+abbrev pub grading_in : Rig → ℕ → ℕ → ℕ → Option Grading
+grading_in r i round half = (r.station i).grading (4 * round + 2 * half + 1)
 
 -- No two own stations decided differently.
 abbrev pub Agreement : Setting → Rig → Type 0
@@ -61,12 +57,12 @@ Near x y = (x.1 ≤ y.1 + 1) × (y.1 ≤ x.1 + 1) × (0 < x.1 → 0 < y.1 → (b
 abbrev pub GradesOneApart : Setting → Rig → Type 0
 GradesOneApart g r =
     (i k round half : ℕ) (x y : Grading) → Own g i → Own g k → half < 2
-    → graded r i round half ≡ some x → graded r k round half ≡ some y → Near x y
+    → grading_in r i round half ≡ some x → grading_in r k round half ≡ some y → Near x y
 
 -- Every grading of an own station is v with grade 2, and every decision is v.
 abbrev pub Unanimity : Setting → Bool → Rig → Type 0
 Unanimity g v r =
-    ((i round half : ℕ) (x : Grading) → Own g i → half < 2 → graded r i round half ≡ some x → x ≡ (some (bit v), 2))
+    ((i round half : ℕ) (x : Grading) → Own g i → half < 2 → grading_in r i round half ≡ some x → x ≡ (some (bit v), 2))
     × ((i b : ℕ) → Own g i → (r.station i).decision ≡ some b → b ≡ bit v)
 
 -- No message from an own to an own station waits, and no own station has an act that applies.
@@ -83,15 +79,15 @@ Finished g r = (i : ℕ) → Own g i → (r.station i).stage ≡ stages g
 abbrev pub Decided : Setting → Rig → Type 0
 Decided g r = (i : ℕ) → Own g i → (b : ℕ) × ((r.station i).decision ≡ some b)
 
--- The round is one of the rig's, and no own station's first grading there is grade 2 with the bit other than the coin's.
+-- The round is one of the rig's, and each own station whose first grading there has grade 2 has the coin's bit in it.
 abbrev pub Unopposed : Setting → ℕ → Rig → Type 0
 Unopposed g round r =
-    (round < g.rounds) × ((i b : ℕ) → Own g i → graded r i round 0 ≡ some (some b, 2) → b ≡ bit (g.coin round))
+    (round < g.rounds) × ((i b : ℕ) → Own g i → grading_in r i round 0 ≡ some (some b, 2) → b ≡ bit (g.coin round))
 
 -- The law of a run that came to rig r.
 pub record Law (g : Setting) (calls : List Call) (answers : List Answer) (r : Rig) : Type 0 where
   pub answered : (o : Rig) × Opened g o × Plays g calls answers o r
-  pub by_the_rules : (i : ℕ) → Own g i → Gives g (fresh (g.opens i)) (history i answers) (r.station i)
+  pub by_the_rules : (i : ℕ) → Own g i → Gives g (fresh_station (g.opens i)) (history i answers) (r.station i)
   pub agreement : Narrow g → Agreement g r
   pub grades_one_apart : Narrow g → GradesOneApart g r
   pub unanimity : (v : Bool) → Wide g → OpenAlike g v → Unanimity g v r
@@ -102,7 +98,7 @@ pub record Law (g : Setting) (calls : List Call) (answers : List Answer) (r : Ri
       (round : ℕ) → Narrow g → Unopposed g round r → Quiet g r → r.missing ≡ 0 → Decided g r
   pub cost : r.posted ≤ size g ^ 2 * (16 * g.rounds + 1)
 
--- Every run keeps the law: for every lawful fault rule, one round or more, any guests, openings, coin, network and calls.
+-- Every run keeps the law: for every lawful fault rule, one round or more, any guests, openings, coin, network, calls.
 abbrev pub EveryRun : Type 0
 EveryRun =
     (g : Setting) → Laws g.rule → 1 ≤ g.rounds → (calls : List Call) (answers : List Answer) (o r : Rig)

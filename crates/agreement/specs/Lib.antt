@@ -1,8 +1,10 @@
 pub mod Sets
 pub mod Families
+pub mod Quorums
 pub mod Messages
 pub mod Station
 pub mod Rig
 pub mod Law
 pub mod Theorems
 pub mod Example
+pub mod Guests

@@ -3,14 +3,14 @@ use Rattle.std.specs.Prelude.{◌≡◌, ℕ, Bool, ◌&&◌, List, count_by, �
 use Rattle.agreement.specs.declared.message.Message.{Message}
 
 -- Two messages agree in all five fields.
-abbrev pub same : Message → Message → Bool
-same x y =
+abbrev pub message_eq : Message → Message → Bool
+message_eq x y =
     (x.sender == y.sender && (x.addressee == y.addressee && x.kind == y.kind))
     && (x.stage == y.stage && x.value == y.value)
 
 -- How often a message is in a list.
 abbrev pub copies : Message → List Message → ℕ
-copies m xs = count_by (same m) xs
+copies m xs = count_by (message_eq m) xs
 
 -- The same messages, each as often: order is no part of what waits.
 abbrev pub Same : List Message → List Message → Type 0

@@ -1,9 +1,10 @@
 -- The rig: n stations and the messages that wait on their network; what each call does, and runs of calls.
-use Rattle.std.specs.Prelude.{◌≡◌, ℕ, zero, suc, ◌+◌, ◌<◌, ◌≤◌, min, Bool, true, false, cond, ◌&&◌, ◌⊎◌, List, [], ◌∷◌, Some as some, None as none, Option, ◌≢◌}
+use Rattle.std.specs.Prelude.{◌≡◌, ℕ, zero, suc, ◌+◌, ◌<◌, ◌≤◌, min, Bool, true, false, if◌then◌else◌, ◌&&◌, ◌⊎◌, List, [], ◌∷◌, Some as some, None as none, Option, ◌≢◌}
+use Rattle.agreement.specs.Sets.{without}
 use Rattle.agreement.specs.declared.message.Message.{Message}
 use Rattle.agreement.specs.Messages.{Same, Payload, message}
-use Rattle.agreement.specs.Station.{Setting, size, stages, Own, Guest, own, Station, fresh, heard}
-use Rattle.agreement.specs.Station.{Act, Idle, Due, after, speech}
+use Rattle.agreement.specs.Station.{Setting, size, stages, Own, Guest, is_own, Station, fresh_station, after_message}
+use Rattle.agreement.specs.Station.{Act, Idle, Due, after_act, speech}
 
 -- A rig.
 pub record Rig : Type 0 where
@@ -15,7 +16,7 @@ pub record Rig : Type 0 where
 
 -- A rig as it is opened; a guest's opening bit has no effect.
 pub record Opened (g : Setting) (r : Rig) : Type 0 where
-  pub stations : (i : ℕ) → i < size g → r.station i ≡ fresh (cond (g.guest i) false (g.opens i))
+  pub stations : (i : ℕ) → i < size g → r.station i ≡ fresh_station (without g.opens g.guest i)
   pub waiting : r.waiting ≡ []
   pub last : r.last ≡ none
   pub posted : r.posted ≡ 0
@@ -41,18 +42,21 @@ abbrev pub Changes : ℕ → Station → (ℕ → Station) → (ℕ → Station)
 Changes i s W W' = (W' i ≡ s) × ((k : ℕ) → (k ≡ i) ⊎ (W' k ≡ W k))
 
 -- The count of missing messages stops at the largest number of 32 bits.
-abbrev pub stops : ℕ → ℕ
-stops m = min 4294967295 m
+abbrev pub capped_count : ℕ → ℕ
+capped_count m = min 4294967295 m
 
--- What waits after i said p to the stations below k in ascending order: each message once more unless it is turned away.
+-- What waits after i said p to the stations below k in ascending order: each message once more, or it is turned away.
 abbrev pub broadcast : Setting → ℕ → Payload → ℕ → List Message → List Message
 broadcast g i p zero w = w
-broadcast g i p (suc k) w = let v = broadcast g i p k w in cond (g.turns_away v (message i k p)) v (message i k p ∷ v)
+broadcast g i p (suc k) w =
+    let v = broadcast g i p k w in let m = message i k p in if g.turns_away v m then v else m ∷ v
 
--- How many of these messages, of those to own stations, were turned away.
+-- How many of the messages to own stations that i so says are turned away.
 abbrev pub strays : Setting → ℕ → Payload → ℕ → List Message → ℕ
 strays g i p zero w = 0
-strays g i p (suc k) w = strays g i p k w + cond (own g k && g.turns_away (broadcast g i p k w) (message i k p)) 1 0
+strays g i p (suc k) w =
+    let away = g.turns_away (broadcast g i p k w) (message i k p) in
+    strays g i p k w + (if is_own g k && away then 1 else 0)
 
 -- What a turn of station i posts: nothing, or what it says to each station.
 abbrev pub Broadcasts : Setting → ℕ → Option Payload → Rig → Rig → Type 0
@@ -60,24 +64,24 @@ Broadcasts g i none r r' = Same r'.waiting r.waiting × (r'.posted ≡ r.posted)
 Broadcasts g i (some p) r r' =
     Same r'.waiting (broadcast g i p (size g) r.waiting)
     × (r'.posted ≡ r.posted + size g)
-    × (r'.missing ≡ stops (r.missing + strays g i p (size g) r.waiting))
+    × (r'.missing ≡ capped_count (r.missing + strays g i p (size g) r.waiting))
 
 -- Station i does act a.
 pub record Acted (g : Setting) (i : ℕ) (a : Act) (r r' : Rig) : Type 0 where
-  pub own : Own g i
+  pub by_own : Own g i
   pub due : Due g (r.station i) a
-  pub stations : Changes i (after g a (r.station i)) r.station r'.station
-  pub broadcast : Broadcasts g i (speech a (r.station i)) r r'
+  pub stations : Changes i (after_act g a (r.station i)) r.station r'.station
+  pub posts : Broadcasts g i (speech a (r.station i)) r r'
   pub last : r'.last ≡ r.last
 
 -- A message's addressee, once it is delivered: a message to a guest changes nothing.
-abbrev pub told : Setting → Message → Station → Station
-told g m s = cond (own g m.addressee) (heard (size g) (stages g) m s) s
+abbrev pub addressee_after : Setting → Message → Station → Station
+addressee_after g m s = if is_own g m.addressee then after_message (size g) (stages g) m s else s
 
--- Message m is taken off and goes to its addressee.
+-- Message m is taken off and goes to its addressee; change says whether that one is in another state than before.
 pub record Delivered (g : Setting) (m : Message) (change : Bool) (r r' : Rig) : Type 0 where
   pub waiting : Same r.waiting (m ∷ r'.waiting)
-  pub stations : Changes m.addressee (told g m (r.station m.addressee)) r.station r'.station
+  pub stations : Changes m.addressee (addressee_after g m (r.station m.addressee)) r.station r'.station
   pub changed : change ≡ true → r'.station m.addressee ≢ r.station m.addressee
   pub unchanged : change ≡ false → r'.station m.addressee ≡ r.station m.addressee
   pub last : r'.last ≡ some m
@@ -91,7 +95,7 @@ Stays r r' = ((k : ℕ) → r'.station k ≡ r.station k) × (r'.last ≡ r.last
 abbrev pub Lost : Setting → Message → Rig → Rig → Type 0
 Lost g m r r' =
     Same r.waiting (m ∷ r'.waiting) × Stays r r'
-    × (r'.missing ≡ stops (r.missing + cond (own g m.sender && own g m.addressee) 1 0))
+    × (r'.missing ≡ capped_count (r.missing + (if is_own g m.sender && is_own g m.addressee then 1 else 0)))
 
 -- Message m is posted, and not in a turn: it waits once more.
 abbrev pub Accepted : Setting → Message → Rig → Rig → Type 0

@@ -1,5 +1,5 @@
 -- Sets of stations.
-use Rattle.std.specs.Prelude.{◌≡◌, ℕ, zero, suc, ◌+◌, ◌/◌, ◌%◌, ◌^◌, ◌<◌, Bool, true, cond, not, ◌&&◌, ◌||◌, ◌==◌, nat_lt}
+use Rattle.std.specs.Prelude.{◌≡◌, ℕ, zero, suc, ◌+◌, ◌/◌, ◌%◌, ◌^◌, ◌<◌, Bool, true, if◌then◌else◌, not, ◌&&◌, ◌||◌, ◌==◌, nat_lt}
 
 -- A set of stations is a test on station numbers.
 abbrev pub Set : Type 0
@@ -22,16 +22,16 @@ both X Y j = X j && Y j
 abbrev pub below : ℕ → Set → Set
 below n X = both (up_to n) X
 
--- The number of the stations below n that are in X.
+-- The number that stands for the stations of X below n: station i counts 2 ^ i.
 abbrev pub number : ℕ → Set → ℕ
 number zero X = 0
-number (suc n) X = number n X + cond (X n) (2 ^ n) 0
+number (suc n) X = number n X + (if X n then 2 ^ n else 0)
 
 -- A number below 2 ^ n is the number of the set that it stands for.
 abbrev pub NumbersAreSets : Type 0
 NumbersAreSets = (n x : ℕ) → x < 2 ^ n → number n (holds x) ≡ x
 
--- A set of stations below n has a number below 2 ^ n, and that number stands for it.
+-- The part of a set below n has a number below 2 ^ n, and that number stands for it.
 abbrev pub SetsAreNumbers : Type 0
 SetsAreNumbers = (n : ℕ) (X : Set) → (number n X < 2 ^ n) × (holds (number n X) ≡ below n X)
 
@@ -43,7 +43,7 @@ every (suc n) X = every n X && X n
 -- How many stations below n are in X.
 abbrev pub tally : ℕ → Set → ℕ
 tally zero X = 0
-tally (suc n) X = tally n X + cond (X n) 1 0
+tally (suc n) X = tally n X + (if X n then 1 else 0)
 
 -- The stations that are not in X.
 abbrev pub outside : Set → Set

@@ -1,10 +1,15 @@
 -- What else is proved of stations and runs.
-use Rattle.std.specs.Prelude.{◌≡◌, ℕ, ◌+◌, ◌*◌, ◌^◌, ◌<◌, ◌≤◌, ◌⊎◌, List, map, Some as some, None as none, Option}
+use Rattle.std.specs.Prelude.{◌≡◌, ◌≢◌, ℕ, ◌+◌, ◌*◌, ◌^◌, ◌<◌, ◌≤◌, Bool, true, false, if◌then◌else◌, ◌⊎◌, List, map, Some as some, None as none, Option, ◌==◌}
+use Rattle.std.specs.Option.{option_or}
+use Rattle.agreement.specs.Sets.{either, only}
 use Rattle.agreement.specs.declared.message.Message.{Message}
-use Rattle.agreement.specs.Messages.{copies, Same}
-use Rattle.agreement.specs.Station.{Setting, size, Own, Station, fresh, Act, Idle, Due}
-use Rattle.agreement.specs.Rig.{Rig, Opened, Call, Step, Plays}
-use Rattle.agreement.specs.Rig.{Answer, acted, delivered, sent, lost, repeated, refused}
+use Rattle.agreement.specs.Messages.{copies, Same, Payload, prepare, propose, commit}
+use Rattle.agreement.specs.Families.{Blocking, Quorum}
+use Rattle.agreement.specs.Station.{Setting, size, stages, Own, Station, fresh_station, Idle, Applies, Before, Due, after_act, speech}
+use Rattle.agreement.specs.Station.{Act, opening, joining, admitting, closing, deciding}
+use Rattle.agreement.specs.Station.{bit, Grading, grading_of, bit_at_two, bit_above_zero}
+use Rattle.agreement.specs.Rig.{Rig, Opened, Call, Step, Plays, capped_count}
+use Rattle.agreement.specs.Rig.{Answer, delivered, lost}
 use Rattle.agreement.specs.Law.{history, Gives}
 
 -- At most one act is due.
@@ -15,6 +20,72 @@ OneActDue = (g : Setting) (s : Station) (a b : Act) → Due g s a → Due g s b 
 abbrev pub DueOrIdle : Type 0
 DueOrIdle = (g : Setting) (s : Station) → ((a : Act) × Due g s a) ⊎ Idle g s
 
+-- What it means that no act applies: in each stage up to its own the station has prepared its input and what blocking sets
+-- prepared, and admitted what quorums prepared; and it has decided where a blocking set committed a bit.
+pub record Served (g : Setting) (s : Station) : Type 0 where
+  pub opened : s.stage < stages g → s.prepared s.stage (s.input s.stage) ≡ true
+  pub joined :
+      (σ v : ℕ) → σ ≤ s.stage → σ < stages g → v ≤ 2 → Blocking g.rule (s.preparers σ v) → s.prepared σ v ≡ true
+  pub admitted :
+      (σ v : ℕ) → σ ≤ s.stage → σ < stages g → v ≤ 2 → Quorum g.rule (s.preparers σ v) → s.admitted σ v ≡ true
+  pub decided : (b : ℕ) → b ≤ 1 → Blocking g.rule (s.committers b) → s.decision ≢ none
+
+-- So it is at every station at which no act applies.
+abbrev pub IdleIsServed : Type 0
+IdleIsServed = (g : Setting) (s : Station) → Idle g s → Served g s
+
+-- The order in which acts are tried, link by link: stages ascending, rules 1 to 4 within a stage, values ascending, and
+-- rule 5 last.
+pub record OrderOfTrying : Type 0 where
+  pub open_then_join : (σ u v : ℕ) → Before (opening σ u) (joining σ v)
+  pub join_then_join : (σ u v : ℕ) → u < v → Before (joining σ u) (joining σ v)
+  pub join_then_admit : (σ u v : ℕ) → Before (joining σ u) (admitting σ v)
+  pub admit_then_admit : (σ u v : ℕ) → u < v → Before (admitting σ u) (admitting σ v)
+  pub admit_then_close : (σ v : ℕ) (P : ℕ → Bool) → Before (admitting σ v) (closing σ P)
+  pub stage_then_stage : (σ τ v : ℕ) (P : ℕ → Bool) → σ < τ → Before (closing σ P) (opening τ v)
+  pub close_then_decide : (σ b : ℕ) (P : ℕ → Bool) → Before (closing σ P) (deciding b)
+  pub decide_then_decide : (b c : ℕ) → b < c → Before (deciding b) (deciding c)
+  pub transitive : (a b c : Act) → Before a b → Before b c → Before a c
+
+-- How sets are graded.
+pub record Gradings : Type 0 where
+  pub bit_alone : (b : Bool) → grading_of (only (bit b)) ≡ (some (bit b), 2)
+  pub bit_and_blank : (b : Bool) → grading_of (either (only (bit b)) (only 2)) ≡ (some (bit b), 1)
+  pub both_bits : (P : ℕ → Bool) → P 0 ≡ true → P 1 ≡ true → grading_of P ≡ (none, 0)
+  pub no_bit : (P : ℕ → Bool) → P 0 ≡ false → P 1 ≡ false → grading_of P ≡ (none, 0)
+
+-- Closing stage σ with set P leaves this next input, this grading and this commitment.
+abbrev pub Leaves : Setting → Station → ℕ → (ℕ → Bool) → ℕ → Option Grading → Option ℕ → Type 0
+Leaves g s σ P next grading committed =
+    let t = after_act g (closing σ P) s in
+    (t.stage ≡ σ + 1) × (t.input (σ + 1) ≡ next) × (t.grading σ ≡ grading) × (t.committed ≡ committed)
+
+-- What closing does in each quarter of round ρ.
+pub record Closings (g : Setting) (s : Station) (ρ : ℕ) (P : ℕ → Bool) (x : Grading) : Type 0 where
+  pub quarter_0 : Leaves g s (4 * ρ) P (bit_at_two x 2) none s.committed
+  pub quarter_1 : Leaves g s (4 * ρ + 1) P (bit_at_two x (bit (g.coin ρ))) (some x) s.committed
+  pub quarter_2 : Leaves g s (4 * ρ + 2) P (bit_at_two x 2) none s.committed
+  pub quarter_3 :
+      Leaves g s (4 * ρ + 3) P (bit_above_zero x (s.input (4 * ρ + 2))) (some x)
+      (option_or s.committed (if x.1 == 2 then x.0 else none))
+
+-- So it is at every station, in every round and with every set.
+abbrev pub ClosingsByQuarter : Type 0
+ClosingsByQuarter = (g : Setting) (s : Station) (ρ : ℕ) (P : ℕ → Bool) → Closings g s ρ P (grading_of P)
+
+-- A station has prepared or proposed the value in the stage, or committed the bit.
+abbrev pub Does : Station → Payload → Type 0
+Does s (prepare σ v) = s.prepared σ v ≡ true
+Does s (propose σ v) = s.proposed σ ≡ some v
+Does s (commit b) = s.committed ≡ some b
+
+-- What an act that applies says, its station had not done before and has done after; what else it has done, it had before.
+abbrev pub SaidOnce : Type 0
+SaidOnce =
+    (g : Setting) (s : Station) (a : Act) (p : Payload) → Applies g s a
+    → (speech a s ≡ some p → (Does s p → ⊥) × Does (after_act g a s) p)
+    × (Does (after_act g a s) p → Does s p ⊎ (speech a s ≡ some p))
+
 -- Of every run on an opened rig: P holds of the answers and the rig that it came to.
 abbrev pub Always : (Setting → List Answer → Rig → Type 0) → Type 0
 Always P =
@@ -24,7 +95,19 @@ Always P =
 -- An own station is in the state that the rules give for its opening bit and its history.
 abbrev pub StationsFollowRules : Type 0
 StationsFollowRules =
-    Always (λ g answers r. (i : ℕ) → Own g i → Gives g (fresh (g.opens i)) (history i answers) (r.station i))
+    Always (λ g answers r. (i : ℕ) → Own g i → Gives g (fresh_station (g.opens i)) (history i answers) (r.station i))
+
+-- An own station has prepared its input in every stage that it has closed.
+abbrev pub OpensBeforeClosing : Type 0
+OpensBeforeClosing =
+    Always (λ g answers r. (i σ : ℕ) → Own g i → σ < (r.station i).stage
+    → (r.station i).prepared σ ((r.station i).input σ) ≡ true)
+
+-- An own station has prepared and admitted nothing in a stage ahead of its own.
+abbrev pub NothingAhead : Type 0
+NothingAhead =
+    Always (λ g answers r. (i σ v : ℕ) → Own g i → (r.station i).stage < σ
+    → ((r.station i).prepared σ v ≡ false) × ((r.station i).admitted σ v ≡ false))
 
 -- A decision, once made, is never changed by any later calls.
 abbrev pub DecisionsLast : Type 0
@@ -41,6 +124,11 @@ MessagesStayWithin =
 abbrev pub PostedBounded : Type 0
 PostedBounded = Always (λ g answers r. r.posted ≤ size g ^ 2 * (16 * g.rounds + 1))
 
+-- The missing count is exact up to the largest number of 32 bits, and stays there.
+abbrev pub MissingStops : Type 0
+MissingStops =
+    ((m : ℕ) → m ≤ 4294967295 → capped_count m ≡ m) × Always (λ g answers r. r.missing ≤ 4294967295)
+
 -- Every call on any rig has an answer.
 abbrev pub CallsAreAnswered : Type 0
 CallsAreAnswered = (g : Setting) (c : Call) (r : Rig) → (a : Answer) × (r' : Rig) × Step g c a r r'
@@ -54,13 +142,10 @@ pub record Alike (g : Setting) (r q : Rig) : Type 0 where
   pub missing : r.missing ≡ q.missing
 
 -- The message that a call took off the network.
-abbrev pub taken : Answer → Option Message
-taken (acted i a) = none
-taken (delivered m change) = some m
-taken sent = none
-taken (lost m) = some m
-taken (repeated m) = none
-taken (refused k) = none
+abbrev pub taken_message : Answer → Option Message
+taken_message (delivered m change) = some m
+taken_message (lost m) = some m
+taken_message other = none
 
 -- The network goes by what waits and not by its order.
 abbrev pub Indifferent : Setting → Type 0
@@ -70,12 +155,12 @@ Indifferent g = (v w : List Message) (m : Message) → Same v w → g.turns_away
 abbrev pub OnlyTakesAreOpen : Type 0
 OnlyTakesAreOpen =
     (g : Setting) → Indifferent g → (c : Call) (a b : Answer) (r r' q q' : Rig) → Alike g r q
-    → Step g c a r r' → Step g c b q q' → ((m n : Message) → taken a ≡ some m → taken b ≡ some n → m ≡ n)
-    → (a ≡ b) × Alike g r' q'
+    → Step g c a r r' → Step g c b q q'
+    → ((m n : Message) → taken_message a ≡ some m → taken_message b ≡ some n → m ≡ n) → (a ≡ b) × Alike g r' q'
 
 -- So runs of the same calls in which the same messages were taken off have the same answers and end in alike rigs.
 abbrev pub RunsGoByTakes : Type 0
 RunsGoByTakes =
     (g : Setting) → Indifferent g → (calls : List Call) (answers others : List Answer) (o r p q : Rig)
-    → Opened g o → Opened g p → Plays g calls answers o r → Plays g calls others p q → map taken answers ≡ map taken others
-    → (answers ≡ others) × Alike g r q
+    → Opened g o → Opened g p → Plays g calls answers o r → Plays g calls others p q
+    → map taken_message answers ≡ map taken_message others → (answers ≡ others) × Alike g r q

@@ -6,19 +6,22 @@
 
 #![tactic(auto)]
 
-ghost use Rattle.agreement.specs.Families.{QuorumsMeet, QuorumBlocks, BlockingReachesOut, QuorumReachesOut};
-ghost use Rattle.agreement.specs.Families.{ComplementSuffices, OneBlocks, UpwardClosed, ClosedIgnores};
+ghost use Rattle.agreement.specs.Quorums.{QuorumsMeet, QuorumBlocks, BlockingReachesOut, QuorumReachesOut};
+ghost use Rattle.agreement.specs.Quorums.{ComplementSuffices, OneBlocks, UpwardClosed, ClosedIgnores};
 ghost use Rattle.agreement.specs.Sets.{NumbersAreSets, SetsAreNumbers};
 ghost use Rattle.agreement.specs.Law.{EveryRun};
-ghost use Rattle.agreement.specs.Theorems.{OneActDue, DueOrIdle, CallsAreAnswered, OnlyTakesAreOpen, RunsGoByTakes};
-ghost use Rattle.agreement.specs.Theorems.{StationsFollowRules, DecisionsLast, MessagesStayWithin, PostedBounded};
+ghost use Rattle.agreement.specs.Theorems.{OneActDue, DueOrIdle, IdleIsServed, NothingAhead, CallsAreAnswered, OnlyTakesAreOpen, RunsGoByTakes};
+ghost use Rattle.agreement.specs.Theorems.{OrderOfTrying, SaidOnce, Gradings, ClosingsByQuarter, MissingStops};
+ghost use Rattle.agreement.specs.Theorems.{StationsFollowRules, OpensBeforeClosing, DecisionsLast, MessagesStayWithin, PostedBounded};
 ghost use Rattle.agreement.specs.Example.{SingleRun, QuietRun};
+ghost use Rattle.agreement.specs.Guests.{GuestRun};
 
 pub mod message;
 
 pub use message::Message;
 
 /// Sets of stations below n and numbers below 2 ^ n are the same thing: station i counts 2 ^ i.
+#[tactic(auto, using(crate::proofs::Numbers::numbers_are_sets, crate::proofs::Numbers::sets_are_numbers))]
 pub fn sets_are_numbers()
     ensures each_number_is_a_set { NumbersAreSets }
     ensures each_set_has_a_number { SetsAreNumbers }
@@ -42,22 +45,37 @@ pub fn laws_give_quorums()
 /// wide guests and one opening bit every grading and decision is that bit. In either case a quiet rig with nothing
 /// missing has finished; it has decided in the second case, and in the first where some round's coin was unopposed.
 /// Turns posted at most n² × (16 R + 1) messages.
+#[tactic(auto, using(crate::proofs::EveryRun::every_run))]
 pub fn every_run_keeps_the_law()
     ensures { EveryRun }
 {}
 
 /// After every run an own station is in the state that the rules give for its opening bit, its acts and the messages
 /// that came to it, in their order. No law of the fault rule is needed.
+#[tactic(auto, using(crate::proofs::Histories::stations_follow_rules))]
 pub fn stations_follow_the_rules()
     ensures { StationsFollowRules }
 {}
 
 /// A station's decision, once made, stays through whatever calls follow.
+#[tactic(auto, using(crate::proofs::Lasting::decisions_last))]
 pub fn decisions_never_change()
     ensures { DecisionsLast }
 {}
 
+/// Opening comes before closing: after every run an own station has prepared its input in each stage that it has closed.
+#[tactic(auto, using(crate::proofs::Lasting::opens_before_closing))]
+pub fn stations_open_before_they_close()
+    ensures { OpensBeforeClosing }
+{}
+
+/// After every run an own station has prepared and admitted nothing in a stage ahead of its own.
+pub fn stations_do_nothing_ahead()
+    ensures { NothingAhead }
+{}
+
 /// At most one act is due at a station.
+#[tactic(auto, using(crate::proofs::Due::one_act_due))]
 pub fn one_act_is_due()
     ensures { OneActDue }
 {}
@@ -67,13 +85,45 @@ pub fn an_act_is_due_or_none_applies()
     ensures { DueOrIdle }
 {}
 
+/// Where no act applies, all that the rules ask for has been done.
+#[tactic(auto, using(crate::proofs::Lasting::idle_is_served))]
+pub fn idle_stations_have_done_their_part()
+    ensures { IdleIsServed }
+{}
+
+/// Acts are tried by stages ascending, by rules 1 to 4 within a stage, by values ascending, and by rule 5 last.
+pub fn acts_are_tried_in_order()
+    ensures { OrderOfTrying }
+{}
+
+/// A station says each thing once: just what an act makes it do for the first time.
+#[tactic(auto, using(crate::proofs::Says::said_once))]
+pub fn each_thing_is_said_once()
+    ensures { SaidOnce }
+{}
+
+/// How a proposal set is graded, and what closing makes of the grading in each quarter.
+pub fn closing_goes_by_set_and_quarter()
+    ensures of_sets { Gradings }
+    ensures by_quarter { ClosingsByQuarter }
+{}
+
+/// The count of missing messages is exact up to the largest number of 32 bits, and stays there.
+#[tactic(auto, using(crate::proofs::Missing::missing_stops))]
+pub fn missing_stops_at_32_bits()
+    ensures { MissingStops }
+{}
+
 /// Every call on any rig has an answer: it is refused with a number or done.
+#[tactic(auto, using(crate::proofs::Exact::calls_are_answered))]
 pub fn every_call_is_answered()
     ensures { CallsAreAnswered }
 {}
 
 /// Only the message that a delivery or a loss takes off the network is open, if the network goes by what waits and not
-/// by its order: everything else of an answer and of the rig after it is determined, and so is a whole run.
+/// by its order: everything else of an answer, and of the rig after it up to the order of what waits, is determined, and
+/// so is a whole run.
+#[tactic(auto, using(crate::proofs::Exact::only_takes_are_open, crate::proofs::Exact::runs_go_by_takes))]
 pub fn only_takes_are_open()
     ensures of_a_step { OnlyTakesAreOpen }
     ensures of_a_run { RunsGoByTakes }
@@ -85,13 +135,23 @@ pub fn messages_stay_within_the_rig()
 {}
 
 /// After every run turns have posted at most n² × (16 R + 1) messages, whatever the fault rule and the guests.
+#[tactic(auto, using(crate::proofs::Cost::posted_bounded))]
 pub fn posted_is_bounded()
     ensures { PostedBounded }
 {}
 
 /// A rig of a single station: its first six calls with their answers, and a run to the end, where it is quiet, finished
-/// and decided with nothing missing. So neither the definitions nor the premises of the law are empty.
+/// and decided with nothing missing, opened alike and with an unopposed coin. So neither the definitions nor the premises
+/// of the law are empty.
+#[tactic(auto, using(crate::proofs::Example::single_run, crate::proofs::Example::quiet_run))]
 pub fn a_single_station_plays()
     ensures to_the_next_stage { SingleRun }
     ensures to_a_quiet_rig { QuietRun }
+{}
+
+/// A rig of two own stations and a guest, on a small network: a run with every refusal but 13, which the single station's
+/// run has, with messages that are ignored, with losses and repeats, and what it leads to.
+#[tactic(auto, using(crate::proofs::Guests::guest_run))]
+pub fn a_rig_with_a_guest_plays()
+    ensures { GuestRun }
 {}

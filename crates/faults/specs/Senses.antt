@@ -1,6 +1,7 @@
 -- The two senses in which a fault rule tolerates a set.
 use Rattle.std.specs.Prelude.{ℕ, List, codes}
-use Rattle.agreement.specs.Families.{Families, Family, Ignores}
+use Rattle.agreement.specs.Families.{Families, Family}
+use Rattle.agreement.specs.Quorums.{Ignores}
 use Rattle.faults.specs.declared.rule.Sense.{Sense}
 use Rattle.faults.specs.declared.rule.Sense.TheVariants.{Wide, Narrow}
 
