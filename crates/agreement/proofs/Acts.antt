@@ -3,8 +3,8 @@ use Rattle.std.proofs.Common.{◌≡◌, ℕ, ◌<◌, ◌≤◌, true, ◌&&◌
 use Rattle.std.specs.Option.{option_or}
 use Rattle.agreement.specs.Families.{Blocking, Quorum}
 use Rattle.agreement.specs.Station.{Setting, stages, Station, put, with_prepared, after_act, admitting, deciding}
-use Rattle.agreement.proofs.Tests.{clash, added, or_left, or_right, and_both, eqb_is, eqb_not, same?}
-use Rattle.agreement.proofs.Closing.{some_is, option_or-cases, option_or-keeps, option_or-some}
+use Rattle.agreement.proofs.Tests.{added, or_left, or_right, and_both, eqb_is, eqb_not, same?}
+use Rattle.agreement.proofs.Closing.{option_or-cases, option_or-keeps, option_or-some}
 use Rattle.agreement.proofs.Facts.{World, Origin, Good, Ext, Grow, good_grows, origin_grows}
 
 pub put_at : {A : Type 0} (f : ℕ → A) (σ : ℕ) (a : A) (x : ℕ) → x ≡ σ → put f σ a x ≡ a
@@ -79,7 +79,7 @@ good_deciding g W W' i b s w d₀ h =
       graded = d.graded;
       committed = d.committed;
       commits = d.commits;
-      decided = λ c e. let q : b ≡ c = some_is b c e in subst (λ x. Blocking g.rule (s.committers x)) q h;
+      decided = λ c e. let q : b ≡ c = cc in subst (λ x. Blocking g.rule (s.committers x)) q h;
     }
 
 module _ (g : Setting) (σ v : ℕ) (s : Station) where
@@ -118,7 +118,7 @@ module _ (g : Setting) (σ v : ℕ) (s : Station) where
           | inl h ↦ elim (option_or-cases (s.proposed σ) (some v) y (sym (proposed_at x h) ∙ e)) [
             | inl p ↦ rw h (still_admitted σ y (d.first_admitted σ y p))
             | inr p ↦ or_right (s.admitted x y) (eqb x σ && eqb y v)
-                (and_both (eqb_is x σ h) (eqb_is y v (sym (some_is v y p.1))))
+                (and_both (eqb_is x σ h) (eqb_is y v (sym (cc p.1))))
           ]
           | inr h ↦ still_admitted x y (d.first_admitted x y (rw h at e))
         ];
@@ -126,7 +126,7 @@ module _ (g : Setting) (σ v : ℕ) (s : Station) where
           | inl h ↦ let f = option_or-some (s.proposed σ) v in (f.0, proposed_at x h ∙ f.1)
           | inr h ↦ elim (added (s.admitted x y) x y σ v e) [
             | inl t ↦ let f = d.first_proposed x y t in (f.0, rw h f.1)
-            | inr q ↦ absurd (clash (eqb_is x σ q.0) h)
+            | inr q ↦ cc (eqb_is x σ q.0)
           ]
         ];
         stage = d.stage;

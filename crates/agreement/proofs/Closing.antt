@@ -4,16 +4,10 @@ use Rattle.std.specs.Option.{option_or, option_map_or}
 use Rattle.agreement.specs.Station.{Setting, Grading, bit}
 use Rattle.agreement.specs.Station.{grading_of, grading_by, next_input, grading_made, bit_to_commit, bit_at_two, bit_above_zero}
 use Rattle.agreement.specs.Law.{Near}
-use Rattle.agreement.proofs.Tests.{true_or_false, clash, not_true, or_right, and_split}
+use Rattle.agreement.proofs.Tests.{true_or_false, not_true, or_right, and_split}
 use Rattle.agreement.proofs.Tests.{eqb_is, eqb_not, same?, up_to_two}
 
--- values that there may be
-pub none_some : {A : Type 0} {v : A} → ◌≡◌ {A = Option A} none (some v) → ⊥
-none_some e = let z : ◌≡◌ {A = ℕ} 0 1 = cc in omega arith
-
-pub some_is : (a b : ℕ) → ◌≡◌ {A = Option ℕ} (some a) (some b) → a ≡ b
-some_is a b e = cc
-
+-- the first of two, where there is one
 pub option_or-cases : (x y : Option ℕ) (v : ℕ) → option_or x y ≡ some v → (x ≡ some v) ⊎ ((x ≡ none) × (y ≡ some v))
 option_or-cases none y v e = inr (refl, e)
 option_or-cases (some a) y v e = inl e
@@ -26,7 +20,7 @@ option_or-some none v = (v, refl)
 option_or-some (some a) v = (a, refl)
 
 pub passes_value : (P : ℕ → Bool) (o : Option ℕ) → option_map_or P o false ≡ true → (v : ℕ) × (o ≡ some v) × (P v ≡ true)
-passes_value P none e = absurd (clash e refl)
+passes_value P none e = cc
 passes_value P (some v) e = (v, refl, e)
 
 -- bits
@@ -74,7 +68,7 @@ commits_is σ P b e = elim (true_or_false (eqb (σ % 4) 3 && eqb (grading_of P).
       let two = eqb-true (grading_of P).1 2 p.1 in
       let q : (grading_of P).0 ≡ some b = rw t at e in
       (eqb-true (σ % 4) 3 p.0, λ i. (q i, two i))
-  | inr t ↦ absurd (none_some (rw t at e))
+  | inr t ↦ cc (rw t at e)
 ]
 
 pub commits_does : (σ : ℕ) (P : ℕ → Bool) (b : ℕ) → σ % 4 ≡ 3 → grading_of P ≡ (some b, 2) → bit_to_commit σ P ≡ some b

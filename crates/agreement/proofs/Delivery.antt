@@ -6,7 +6,6 @@ use Rattle.agreement.specs.Families.{Laws}
 use Rattle.agreement.specs.Station.{Setting, size, stages, Own, is_own, Station, is_heeded, with_message}
 use Rattle.agreement.specs.Rig.{Rig, addressee_after, Delivered}
 use Rattle.agreement.specs.Theorems.{Does}
-use Rattle.agreement.proofs.Closing.{some_is}
 use Rattle.agreement.proofs.Own.{own_is}
 use Rattle.agreement.proofs.Facts.{World, Good, Ext, ext_refl, Grow, changed, grow_changes, good_grows, good_changes}
 use Rattle.agreement.proofs.Hear.{Sent, sent_grows, ext_with_message, good_with_message}
@@ -28,7 +27,7 @@ one_value : (g : Setting) (W : World) (i j : ℕ) (p : Payload) → Own g j → 
     → (σ w : ℕ) → (W i).proposal σ j ≡ some w → (v : ℕ) → p ≡ propose σ v → w ≡ v
 one_value g W i j p o d h σ w q v e =
     let a : (W j).proposed σ ≡ some v = subst (λ x. Does (W j) x) e h in
-    some_is w v (sym (d.heard_propose σ w j o q) ∙ a)
+    cc (d.heard_propose σ w j o q)
 
 module _ (g : Setting) (laws : Laws g.rule) (m : Message) (b : Bool) (r r' : Rig) (v : Inv g r)
     (c : Delivered g m b r r') where

@@ -1,17 +1,18 @@
 -- At most one act is due, and one is due where any applies: the acts that apply are numbered in their order.
 use Rattle.std.proofs.Common.{◌≡◌, ℕ, zero, suc, ◌+◌, ◌-◌, ◌*◌, ◌/◌, ◌%◌, ◌<◌, ◌≤◌, Bool, true, false, cond, eqb, ◌⊎◌, ◌↔◌, Some as some, Option, sym, refl, ap, ◌∙◌, subst, inl, inr, arith}
 use Rattle.std.specs.Option.{option_map_or}
-use Rattle.agreement.specs.Station.{Setting, size, stages, Station, ProposalSet}
+use Rattle.agreement.specs.Families.{Quorum}
+use Rattle.agreement.specs.Station.{Setting, size, stages, Station, ProposalSet, proposers, Idle}
 use Rattle.agreement.specs.Station.{Act, opening, joining, admitting, closing, deciding}
 use Rattle.agreement.specs.Station.{Applies, place, Before}
-use Rattle.agreement.specs.Theorems.{OneActDue, DueOrIdle}
-use Rattle.agreement.proofs.Tests.{clash, same_truth}
+use Rattle.agreement.specs.Theorems.{OneActDue, DueOrIdle, Served, IdleIsServed}
+use Rattle.agreement.proofs.Tests.{true_or_false, same_truth}
 use Rattle.agreement.proofs.Sets.{find, last_or}
 
 -- a test for what is decided
 pub test : {A : Type 0} → A ⊎ (A → ⊥) → (b : Bool) × ((b ≡ true) ↔ A)
 test (inl a) = (true, (λ e. a, λ a. refl))
-test (inr k) = (false, (λ e. absurd (clash e refl), λ a. absurd (k a)))
+test (inr k) = (false, (λ e. cc, λ a. absurd (k a)))
 
 -- the least number that P holds of, or P holds of none below n
 least : (P : ℕ → Type 0) → ((k : ℕ) → P k ⊎ (P k → ⊥)) → (n : ℕ)
@@ -133,3 +134,35 @@ due_or_idle g s = elim (least (Used g s) (used? g s) (15 * stages g + 15)) [
   | inl (k, u, below) ↦ inl (act g s k, (u.0, λ a h p. below (number g a) (lower g s k u a p h) (used g s a p)))
   | inr below ↦ inr (λ a p. below (number g a) (number_below g a (within g s a p)) (used g s a p))
 ]
+
+-- where no act applies, what the rules ask for is done
+idle_served : (g : Setting) (s : Station) → Idle g s → Served g s
+idle_served g s idle = record {
+  opened = λ l. elim (true_or_false (s.prepared s.stage (s.input s.stage))) [
+    | inl t ↦ t
+    | inr t ↦ absurd (idle (opening s.stage (s.input s.stage)) (refl, l, refl, t))
+  ];
+  joined = λ σ v a l k h. elim (true_or_false (s.prepared σ v)) [
+    | inl t ↦ t
+    | inr t ↦ absurd (idle (joining σ v) (a, l, k, t, h))
+  ];
+  admitted = λ σ v a l k h. elim (true_or_false (s.admitted σ v)) [
+    | inl t ↦ t
+    | inr t ↦ absurd (idle (admitting σ v) (a, l, k, t, h))
+  ];
+  unbacked = λ l q. let P = some_proposal_set g s s.stage in idle (closing s.stage P.0) (refl, l, q, P.1);
+  decided = λ b l h e. idle (deciding b) (l, e, h);
+}
+
+-- and where it is done, none applies
+served_idle : (g : Setting) (s : Station) → Served g s → (a : Act) → Applies g s a → ⊥
+served_idle g s d (opening σ v) p =
+    let o = d.opened (omega (arith, p.0, p.1)) in cc ((rw (sym p.0, sym p.2) at o), p.3)
+served_idle g s d (joining σ v) p = cc ((d.joined σ v p.0 p.1 p.2 p.4), p.3)
+served_idle g s d (admitting σ v) p = cc ((d.admitted σ v p.0 p.1 p.2 p.4), p.3)
+served_idle g s d (closing σ P) p =
+    d.unbacked (omega (arith, p.0, p.1)) (subst (λ x. Quorum g.rule (proposers s x (s.admitted x))) p.0 p.2)
+served_idle g s d (deciding b) p = d.decided b p.0 p.2 p.1
+
+pub idle_is_served : IdleIsServed
+idle_is_served g s = (idle_served g s, served_idle g s)

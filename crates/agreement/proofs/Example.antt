@@ -8,7 +8,6 @@ use Rattle.agreement.specs.Station.{Act, opening, joining, admitting, closing, d
 use Rattle.agreement.specs.Rig.{Rig, Opened, Call, turn, deliver, Changes, Broadcasts, Step, Plays}
 use Rattle.agreement.specs.Rig.{Answer, acted, delivered, refused}
 use Rattle.agreement.specs.Example.{nobody, single, six_calls, SingleRun, QuietRun}
-use Rattle.agreement.proofs.Tests.{clash}
 use Rattle.agreement.proofs.Records.{new, new_changes}
 
 -- a part of the empty set is empty
@@ -180,7 +179,7 @@ module _ (coin : Bool) where
             waiting = λ x. rw h.waiting;
             stations = rw d (changes (with_message m s) r.station);
             changed = λ _. new_changes m s e;
-            unchanged = λ x. absurd (clash refl x);
+            unchanged = λ x. cc;
             last = refl;
             counts = (refl, sym h.missing);
           },

@@ -7,7 +7,6 @@ use Rattle.agreement.specs.Station.{Guest, is_own, Station, fresh_station, after
 use Rattle.agreement.specs.Rig.{Rig, Call, turn, deliver, lose, send, repeat, Plays, Step, Refused, addressee_after, capped_count}
 use Rattle.agreement.specs.Rig.{Answer, acted, delivered, sent, lost, repeated, refused}
 use Rattle.agreement.specs.Guests.{three, from_to, to_itself, refusals, told, crowded, GuestRun}
-use Rattle.agreement.proofs.Tests.{clash}
 use Rattle.agreement.proofs.Records.{new_changes, old_stays}
 use Rattle.agreement.proofs.Exact.{put_changes, rig}
 
@@ -54,7 +53,7 @@ ignores e = record {
     record {
       waiting = λ x. refl;
       stations = (sym e, λ k. inr refl);
-      changed = λ x. absurd (clash x refl);
+      changed = λ x. cc;
       unchanged = λ x. refl;
       last = refl;
       counts = (refl, refl);
@@ -77,7 +76,7 @@ heeds {m} {W} d =
           waiting = λ x. refl;
           stations = c;
           changed = λ x e. d (sym c.0 ∙ e);
-          unchanged = λ x. absurd (clash refl x);
+          unchanged = λ x. cc;
           last = refl;
           counts = (refl, refl);
         },

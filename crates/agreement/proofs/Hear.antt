@@ -4,8 +4,8 @@ use Rattle.std.specs.Option.{option_or, option_map_or}
 use Rattle.agreement.specs.declared.message.Message.{Message}
 use Rattle.agreement.specs.Families.{Laws}
 use Rattle.agreement.specs.Station.{Setting, Own, Station, with_message, proposers}
-use Rattle.agreement.proofs.Tests.{clash, or_cases, or_left, and_split}
-use Rattle.agreement.proofs.Closing.{none_some, some_is, option_or-cases}
+use Rattle.agreement.proofs.Tests.{or_cases, or_left, and_split}
+use Rattle.agreement.proofs.Closing.{option_or-cases}
 use Rattle.agreement.proofs.Own.{quorum_grows, blocking_grows}
 use Rattle.agreement.proofs.Facts.{World, Good, Ext, Grow, good_grows}
 
@@ -35,12 +35,12 @@ all_three : (a b c : Bool) → (a && (b && c)) ≡ true → (a ≡ true) × (b �
 all_three a b c e = let p = and_split a (b && c) e in let q = and_split b c p.1 in (p.0, q.0, q.1)
 
 only_if : (b : Bool) (v w : ℕ) → cond b (some v) none ≡ some w → (b ≡ true) × (v ≡ w)
-only_if true v w e = (refl, some_is v w e)
-only_if false v w e = absurd (none_some e)
+only_if true v w e = (refl, cc)
+only_if false v w e = cc
 
 passes_first : (P : ℕ → Bool) (x y : Option ℕ) → option_map_or P x false ≡ true
     → option_map_or P (option_or x y) false ≡ true
-passes_first P none y e = absurd (clash e refl)
+passes_first P none y e = cc
 passes_first P (some v) y e = e
 
 module _ (m : Message) where

@@ -5,7 +5,7 @@ use Rattle.agreement.specs.Rig.{Rig, Call, Step, Plays, Changes, addressee_after
 use Rattle.agreement.specs.Rig.{Answer, acted, delivered, sent, lost, repeated, refused}
 use Rattle.agreement.specs.Law.{Event, hears, does, events, history, Gives}
 use Rattle.agreement.specs.Theorems.{StationsFollowRules}
-use Rattle.agreement.proofs.Tests.{clash, same?, eqb_is}
+use Rattle.agreement.proofs.Tests.{same?, eqb_is}
 use Rattle.agreement.proofs.Own.{own_is}
 use Rattle.agreement.proofs.Facts.{opens_with}
 
@@ -22,7 +22,7 @@ happened g i k e s W W' c new = elim (same? k i) [
   | inl h ↦ rw (eqb_is k i h)
       (subst (λ x. Gives g (W i) (e ∷ []) x) (sym c.0 ∙ (λ j. W' (h j))) (new h))
   | inr h ↦ rw h (elim (c.1 i) [
-    | inl t ↦ let z : eqb k i ≡ true = eqb_is k i (sym t) in absurd (clash z h)
+    | inl t ↦ let z : eqb k i ≡ true = eqb_is k i (sym t) in cc
     | inr t ↦ t
   ])
 ]

@@ -5,8 +5,8 @@ use Rattle.agreement.specs.Messages.{Same, Payload, prepare, propose, commit, me
 use Rattle.agreement.specs.Station.{Setting, Own, is_own, fresh_station}
 use Rattle.agreement.specs.Rig.{Rig, Opened, Stays, Lost}
 use Rattle.agreement.specs.Theorems.{Does}
-use Rattle.agreement.proofs.Tests.{clash, and_both}
-use Rattle.agreement.proofs.Closing.{none_some, open_le}
+use Rattle.agreement.proofs.Tests.{and_both}
+use Rattle.agreement.proofs.Closing.{open_le}
 use Rattle.agreement.proofs.Own.{own_is}
 use Rattle.agreement.proofs.Facts.{opens_with, World, Good, ext_refl, Grow, good_same}
 use Rattle.agreement.proofs.Hear.{Sent, sent_grows}
@@ -28,34 +28,34 @@ pub record Inv (g : Setting) (r : Rig) : Type 0 where
 
 good_fresh : (g : Setting) (W : World) (i : ℕ) → Good g W i (fresh_station (g.opens i))
 good_fresh g W i = record {
-  heard_prepare = λ σ v j o e. absurd (clash e refl);
-  heard_propose = λ σ v j o e. absurd (none_some e);
-  heard_commit = λ b j o e. absurd (clash e refl);
-  prepared = λ σ v e. absurd (clash e refl);
-  admitted = λ σ v e. absurd (clash e refl);
-  first_admitted = λ σ v e. absurd (none_some e);
-  first_proposed = λ σ v e. absurd (clash e refl);
+  heard_prepare = λ σ v j o e. cc;
+  heard_propose = λ σ v j o e. cc;
+  heard_commit = λ b j o e. cc;
+  prepared = λ σ v e. cc;
+  admitted = λ σ v e. cc;
+  first_admitted = λ σ v e. cc;
+  first_proposed = λ σ v e. cc;
   stage = omega arith;
   opened_with = refl;
   inputs = λ σ h. let k = open_le (g.opens i) σ in (omega arith, λ e. k);
   opened = λ σ h. absurd (omega arith);
   closed = λ σ h. absurd (omega arith);
-  graded = λ σ x e. absurd (none_some e);
-  committed = λ b e. absurd (none_some e);
-  commits = λ ρ b e. absurd (none_some e);
-  decided = λ b e. absurd (none_some e);
+  graded = λ σ x e. cc;
+  committed = λ b e. cc;
+  commits = λ ρ b e. cc;
+  decided = λ b e. cc;
 }
 
 fresh_does : (b : Bool) (p : Payload) → Does (fresh_station b) p → ⊥
-fresh_does b (prepare σ v) e = clash e refl
-fresh_does b (propose σ v) e = none_some e
-fresh_does b (commit c) e = none_some e
+fresh_does b (prepare σ v) e = cc
+fresh_does b (propose σ v) e = cc
+fresh_does b (commit c) e = cc
 
 pub inv_opened : (g : Setting) (r : Rig) → Opened g r → Inv g r
 inv_opened g r o = record {
   good = λ i k. rw (opens_with g r o i k) (good_fresh g r.station i);
   waiting = λ m h k. absurd (nothing_waits m r.waiting o.waiting h);
-  last = λ m h k. absurd (none_some (sym o.last ∙ h));
+  last = λ m h k. cc (sym o.last ∙ h);
   reach = λ z i j oi oj p d. absurd (fresh_does (g.opens j) p (subst (λ x. Does x p) (opens_with g r o j oj) d));
 }
 

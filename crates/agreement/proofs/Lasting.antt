@@ -1,12 +1,11 @@
 -- What acts that are due and messages heard leave true of a station lasts through every run; two such facts.
-use Rattle.std.proofs.Common.{◌≡◌, ℕ, ◌<◌, true, false, Some as some, sym, refl, ◌∙◌, inl, inr, arith, List}
+use Rattle.std.proofs.Common.{◌≡◌, ℕ, ◌<◌, true, false, Some as some, None as none, sym, refl, ◌∙◌, inl, inr, arith, List}
 use Rattle.agreement.specs.declared.message.Message.{Message}
-use Rattle.agreement.specs.Station.{Setting, Station, Act, opening, joining, admitting, closing, deciding, Due, after_act, with_message}
+use Rattle.agreement.specs.Station.{Setting, Station, Act, opening, joining, closing, deciding, Due, after_act, with_message}
 use Rattle.agreement.specs.Rig.{Rig, Call, addressee_after, Step, Plays}
 use Rattle.agreement.specs.Rig.{Answer, acted, delivered, sent, lost, repeated, refused}
-use Rattle.agreement.specs.Theorems.{DecisionsLast, OpensBeforeClosing, NothingAhead, IdleIsServed}
-use Rattle.agreement.proofs.Tests.{true_or_false, same?, apart_lt}
-use Rattle.agreement.proofs.Closing.{none_some}
+use Rattle.agreement.specs.Theorems.{DecisionsLast, OpensBeforeClosing, NothingAhead}
+use Rattle.agreement.proofs.Tests.{same?, apart_lt}
 use Rattle.agreement.proofs.Facts.{opens_with, changed}
 use Rattle.agreement.proofs.Close.{input_off}
 use Rattle.agreement.proofs.Delivery.{when_told}
@@ -35,7 +34,7 @@ module _ (g : Setting) (P : Station → Type 0) (acts : (a : Act) (s : Station) 
 -- an act that is due leaves a decision
 act_keeps : (g : Setting) (b : ℕ) (a : Act) (s : Station) → Due g s a → s.decision ≡ some b
     → (after_act g a s).decision ≡ some b
-act_keeps g b (deciding c) s d e = absurd (none_some (sym d.0.1 ∙ e))
+act_keeps g b (deciding c) s d e = cc (sym d.0.1 ∙ e)
 act_keeps g b a s d e = e
 
 pub decisions_last : DecisionsLast
@@ -64,32 +63,16 @@ opens_before_closing g calls answers o r h p i σ own =
 
 -- nothing is prepared or admitted ahead
 abbrev Behind : Station → Type 0
-Behind s = (σ v : ℕ) → s.stage < σ → (s.prepared σ v ≡ false) × (s.admitted σ v ≡ false)
+Behind s =
+    (σ v : ℕ) → s.stage < σ
+    → (s.prepared σ v ≡ false) × (s.admitted σ v ≡ false) × (s.proposed σ ≡ none) × (s.grading σ ≡ none)
 
 -- an act that is due leaves it so
 act_behind : (g : Setting) (a : Act) (s : Station) → Due g s a → Behind s → Behind (after_act g a s)
-act_behind g (closing σ P) s d b τ w h = b τ w (omega (arith, d.0.0))
+act_behind g (closing σ P) s d b τ w h = let k = b τ w (omega (arith, d.0.0)) in let e = d.0.0 in grind arith
 act_behind g a s d b τ w h = let k = b τ w h in let e = d.0 in grind arith
 
 pub nothing_ahead : NothingAhead
 nothing_ahead g calls answers o r h p i σ v own =
-    lasts g Behind (act_behind g) (λ m s e. e) i calls answers o r p (rw (opens_with g o h i own) (λ τ w l. (refl, refl)))
+    lasts g Behind (act_behind g) (λ m s e. e) i calls answers o r p (rw (opens_with g o h i own) (λ τ w l. (refl, refl, refl, refl)))
     σ v
-
--- where no act applies, what should be done is done
-pub idle_is_served : IdleIsServed
-idle_is_served g s idle = record {
-  opened = λ l. elim (true_or_false (s.prepared s.stage (s.input s.stage))) [
-    | inl t ↦ t
-    | inr t ↦ absurd (idle (opening s.stage (s.input s.stage)) (refl, l, refl, t))
-  ];
-  joined = λ σ v a l k h. elim (true_or_false (s.prepared σ v)) [
-    | inl t ↦ t
-    | inr t ↦ absurd (idle (joining σ v) (a, l, k, t, h))
-  ];
-  admitted = λ σ v a l k h. elim (true_or_false (s.admitted σ v)) [
-    | inl t ↦ t
-    | inr t ↦ absurd (idle (admitting σ v) (a, l, k, t, h))
-  ];
-  decided = λ b l h e. idle (deciding b) (l, e, h);
-}

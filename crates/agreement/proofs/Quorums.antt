@@ -4,7 +4,7 @@ use Rattle.agreement.specs.Sets.{Set, Some, both, below, outside, without}
 use Rattle.agreement.specs.Families.{Families, Blocking}
 use Rattle.agreement.specs.Quorums.{QuorumsMeet, QuorumBlocks, BlockingReachesOut, QuorumReachesOut}
 use Rattle.agreement.specs.Quorums.{ComplementSuffices, OneBlocks, UpwardClosed, ClosedIgnores}
-use Rattle.agreement.proofs.Tests.{true_or_false, clash, same_truth, and_both, and_right}
+use Rattle.agreement.proofs.Tests.{true_or_false, same_truth, and_both, and_right}
 use Rattle.agreement.proofs.Sets.{find}
 
 -- a set is blocking where its being wide-tolerable is absurd
@@ -35,7 +35,7 @@ twice_not c e = grind arith
 
 turned : (a b : Bool) → (a ≡ true → b ≡ true) → not b ≡ true → not a ≡ true
 turned true true p e = e
-turned true false p e = absurd (clash (p refl) refl)
+turned true false p e = cc (p refl)
 turned false b p e = refl
 
 pub quorums_meet : QuorumsMeet
@@ -51,7 +51,7 @@ quorum_blocks f l X Z x z =
 pub blocking_reaches_out : BlockingReachesOut
 blocking_reaches_out f l X Z x z =
     some_of f.n (without X Z)
-    (λ none. clash (l.wide_parts X Z (λ j h. within_rest (X j) (Z j) (none j h)) z) x)
+    (λ none. cc (l.wide_parts X Z (λ j h. within_rest (X j) (Z j) (none j h)) z))
 
 pub quorum_reaches_out : QuorumReachesOut
 quorum_reaches_out f l X Z x z =
@@ -73,7 +73,7 @@ one_blocks f l X Y Z c z = elim (true_or_false (f.wide X)) [
 pub upward_closed : UpwardClosed
 upward_closed f l X Y p = (
   l.wide_parts (outside Y) (outside X) (λ j h. turned (X j) (Y j) (p j h)),
-  λ x. blocks f Y (λ y. clash (l.wide_parts X Y p y) x),
+  λ x. blocks f Y (λ y. cc (l.wide_parts X Y p y)),
 )
 
 pub closed_ignores : ClosedIgnores

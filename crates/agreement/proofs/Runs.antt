@@ -4,7 +4,6 @@ use Rattle.agreement.specs.Families.{Laws}
 use Rattle.agreement.specs.Station.{Setting}
 use Rattle.agreement.specs.Law.{Wide}
 use Rattle.agreement.specs.Rig.{Rig, Opened, Call, Step, Plays, Answer, acted, delivered, sent, lost, repeated, refused}
-use Rattle.agreement.proofs.Tests.{clash}
 use Rattle.agreement.proofs.Invariant.{Inv, inv_opened, inv_posted, inv_lost}
 use Rattle.agreement.proofs.Delivery.{inv_delivered}
 use Rattle.agreement.proofs.Turns.{inv_acted}
@@ -23,7 +22,7 @@ module _ (g : Setting) (laws : Laws g.rule) (wide : Wide g) where
   inv_step c (acted i a) r r' v s = inv_acted g laws wide i a r r' v s.1
   inv_step c (delivered m b) r r' v s = inv_delivered g laws m b r r' v s.2
   inv_step c sent r r' v s =
-      inv_posted g r r' v s.4.3 s.0 s.4.1 s.4.2 (λ o. absurd (clash s.2.1 o.1))
+      inv_posted g r r' v s.4.3 s.0 s.4.1 s.4.2 (λ o. cc (s.2.1, o.1))
   inv_step c (lost m) r r' v s = inv_lost g r r' v s.2.1 m s.2
   inv_step c (repeated m) r r' v s = inv_posted g r r' v s.2.3 m s.2.1 s.2.2 (v.last m s.1)
   inv_step c (refused k) r r' v s = subst (λ x. Inv g x) (sym s.1) v

@@ -4,7 +4,7 @@ use Rattle.agreement.specs.Families.{Laws}
 use Rattle.agreement.specs.Station.{Setting, Own, Grading, bit, grading_of, bit_at_two, proposers}
 use Rattle.agreement.specs.Law.{Wide, Narrow, Near}
 use Rattle.agreement.proofs.Tests.{same?, and_split, or_cases, le_or}
-use Rattle.agreement.proofs.Closing.{some_is, passes_value, bit_of, makes_odd, follows_even, follows_three, grade_bit}
+use Rattle.agreement.proofs.Closing.{passes_value, bit_of, makes_odd, follows_even, follows_three, grade_bit}
 use Rattle.agreement.proofs.Closing.{two_follows, only_grade, sole_only, share_near, beside_two}
 use Rattle.agreement.proofs.Own.{blocking_own, quorum_own, quorums_share}
 use Rattle.agreement.proofs.Facts.{World, Origin, Good}
@@ -94,7 +94,7 @@ module _ (g : Setting) (laws : Laws g.rule) (wide : Wide g) (W : World)
       let k = (all i o).committed b e in
       let q : ◌≡◌ {A = Grading} (some b, 2) (some (bit v), 2)
       = alike_graded v u i (4 * k.0 + 3) (some b, 2) o (omega arith) k.2 in
-      some_is b (bit v) (ap (λ (x : Grading). x.0) q)
+      cc (ap (λ (x : Grading). x.0) q)
 
   module _ (narrow : Narrow g) where
     -- two closed sets of a stage share a value
@@ -109,7 +109,7 @@ module _ (g : Setting) (laws : Laws g.rule) (wide : Wide g) (W : World)
         let y = passes_value b.set ((W k).proposal σ m.0) both.1 in
         let ex = (all i oi).heard_propose σ x.0 m.0 m.1 x.1 in
         let ey = (all k ok).heard_propose σ y.0 m.0 m.1 y.1 in
-        let e : x.0 ≡ y.0 = some_is x.0 y.0 (sym ex ∙ ey) in (
+        let e : x.0 ≡ y.0 = cc (sym ex ∙ ey) in (
           x.0,
           ((all i oi).admitted σ x.0 (a.admitted x.0 x.2)).1,
           x.2,
@@ -180,7 +180,7 @@ module _ (g : Setting) (laws : Laws g.rule) (wide : Wide g) (W : World)
           let ek' = subst (λ x. (W k).grading (4 * x + 3) ≡ some (some c, 2)) (sym e) ek in
           let a = gradings_near i k (4 * ρ + 3) (some b, 2) (some c, 2) oi ok (omega arith) ei ek' in
           let t = a.2 (omega arith) (omega arith) in
-          some_is b c (t.1 ∙ sym t.2)
+          cc (t.1, t.2)
       | inr e ↦
           let β = bit_of b (graded_bit i (4 * ρ + 3) b 2 oi (omega arith) ei) in
           let u : Unanimous g W (4 * ρ + 3 + 1) (bit β.0)
@@ -189,7 +189,7 @@ module _ (g : Setting) (laws : Laws g.rule) (wide : Wide g) (W : World)
           let v = unanimous_on (4 * ρ + 3 + 1) β.0 u (4 * π + 3) (omega arith) in
           let q = unanimous_graded (4 * π + 3) β.0 v (omega arith) k ok ((all k ok).graded (4 * π + 3) (some c, 2) ek) in
           let z : ◌≡◌ {A = Option Grading} (some (some c, 2)) (some (some (bit β.0), 2)) = sym ek ∙ q in
-          let y : c ≡ bit β.0 = some_is c (bit β.0) (ap grading_bit z) in
+          let y : c ≡ bit β.0 = cc (ap grading_bit z) in
           sym (y ∙ β.1)
     ]
 

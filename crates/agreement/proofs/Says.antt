@@ -6,8 +6,8 @@ use Rattle.agreement.specs.Messages.{Payload, prepare, propose, commit, message}
 use Rattle.agreement.specs.Station.{Setting, size, stages, Own, Station, grading_of, is_heeded, with_message}
 use Rattle.agreement.specs.Station.{Act, opening, joining, admitting, closing, deciding, Applies, after_act, speech, bit_to_commit}
 use Rattle.agreement.specs.Theorems.{Does, SaidOnce}
-use Rattle.agreement.proofs.Tests.{clash, or_left, or_right, and_both, added, adds, eqb_same, same?}
-use Rattle.agreement.proofs.Closing.{none_some, some_is, option_or-cases, option_or-keeps, grade_bit, makes_odd}
+use Rattle.agreement.proofs.Tests.{or_left, or_right, and_both, added, adds, eqb_same, same?}
+use Rattle.agreement.proofs.Closing.{option_or-cases, option_or-keeps, grade_bit, makes_odd}
 use Rattle.agreement.proofs.Facts.{World, Good}
 use Rattle.agreement.proofs.Acts.{proposed_at}
 use Rattle.agreement.proofs.Hear.{Sent}
@@ -75,7 +75,7 @@ speaks g (joining σ v) s (prepare x y) h = prepares_new σ v x y s h
 speaks g (admitting σ v) s (propose x y) h = elim (same? x σ) [
   | inl e ↦ elim (option_or-cases (s.proposed σ) (some v) y (sym (proposed_at g σ v s x e) ∙ h)) [
     | inl p ↦ inl (rw e p)
-    | inr p ↦ inr (rw p.0 (rw (e, some_is v y p.1) refl))
+    | inr p ↦ let q : v ≡ y = cc p.1 in inr (rw p.0 (rw (e, q) refl))
   ]
   | inr e ↦ inl (rw e at h)
 ]
@@ -89,10 +89,10 @@ speaks g a s p h = inl h
 said_first : (o : Option ℕ) (x : Option Payload) (p : Payload) → (if is_none o then x else none) ≡ some p
     → (o ≡ none) × (x ≡ some p)
 said_first none x p e = (refl, e)
-said_first (some u) x p e = absurd (none_some e)
+said_first (some u) x p e = cc
 
 committing : (o : Option ℕ) (p : Payload) → option_map commit o ≡ some p → (b : ℕ) × (o ≡ some b) × (commit b ≡ p)
-committing none p e = absurd (none_some e)
+committing none p e = cc
 committing (some b) p e = (b, refl, cc)
 
 -- and what it says, it has done
@@ -111,23 +111,37 @@ says_true g (closing σ P) s p e =
     let q = committing (bit_to_commit σ P) p k.1 in
     subst (λ x. Does (after_act g (closing σ P) s) x) q.2
     (ap (λ (x : Option ℕ). option_or x (bit_to_commit σ P)) k.0 ∙ q.1)
-says_true g (deciding b) s p e = absurd (none_some e)
+says_true g (deciding b) s p e = cc
 
 -- which it had not done before
 says_new : (g : Setting) (a : Act) (s : Station) (p : Payload) → Applies g s a → speech a s ≡ some p → Does s p → ⊥
-says_new g (opening σ v) s p h e d = let q : p ≡ prepare σ v = cc in clash (rw q at d) h.3
-says_new g (joining σ v) s p h e d = let q : p ≡ prepare σ v = cc in clash (rw q at d) h.3
+says_new g (opening σ v) s p h e d = let q : p ≡ prepare σ v = cc in cc ((rw q at d), h.3)
+says_new g (joining σ v) s p h e d = let q : p ≡ prepare σ v = cc in cc ((rw q at d), h.3)
 says_new g (admitting σ v) s p h e d =
     let k = said_first (s.proposed σ) (some (propose σ v)) p e in
-    let q : p ≡ propose σ v = cc k.1 in none_some (sym k.0 ∙ (rw q at d))
+    let q : p ≡ propose σ v = cc k.1 in cc (sym k.0 ∙ (rw q at d))
 says_new g (closing σ P) s p h e d =
     let k = said_first s.committed (option_map commit (bit_to_commit σ P)) p e in
     let q = committing (bit_to_commit σ P) p k.1 in
-    none_some (sym k.0 ∙ (rw (sym q.2) at d))
-says_new g (deciding b) s p h e d = none_some e
+    cc (k.0, rw (sym q.2) at d)
+says_new g (deciding b) s p h e d = cc
+
+-- and what it had done, it has done still
+does_still : (g : Setting) (a : Act) (s : Station) (p : Payload) → Does s p → Does (after_act g a s) p
+does_still g (opening σ v) s (prepare x y) d = or_left (s.prepared x y) (eqb x σ && eqb y v) d
+does_still g (joining σ v) s (prepare x y) d = or_left (s.prepared x y) (eqb x σ && eqb y v) d
+does_still g (admitting σ v) s (propose x y) d = elim (same? x σ) [
+  | inl e ↦ proposed_at g σ v s x e ∙ option_or-keeps (s.proposed σ) (some v) y (rw e at d)
+  | inr e ↦ rw e d
+]
+does_still g (closing σ P) s (commit b) d = option_or-keeps s.committed (bit_to_commit σ P) b d
+does_still g a s p d = d
 
 pub said_once : SaidOnce
-said_once g s a p h = (λ e. (says_new g a s p h e, says_true g a s p e), speaks g a s p)
+said_once g s a p h = (
+  says_new g a s p h,
+  (speaks g a s p, λ e. elim e [ inl d ↦ does_still g a s p d | inr e ↦ says_true g a s p e ]),
+)
 
 -- a message of what its sender has done
 pub sent_does : (W : World) (i k : ℕ) (p : Payload) → Does (W i) p → Sent W (message i k p)

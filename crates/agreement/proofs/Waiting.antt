@@ -6,7 +6,7 @@ use Rattle.agreement.specs.Messages.{message_eq, copies, Same, Payload, prepare,
 use Rattle.agreement.specs.Station.{Setting, Own, is_own}
 use Rattle.agreement.specs.Rig.{broadcast, strays}
 use Rattle.agreement.specs.Theorems.{Indifferent}
-use Rattle.agreement.proofs.Tests.{true_or_false, clash, and_split, and_both, eqb_same}
+use Rattle.agreement.proofs.Tests.{true_or_false, and_split, and_both, eqb_same}
 use Rattle.agreement.proofs.Sets.{last_or}
 use Rattle.agreement.proofs.Own.{own_is}
 
@@ -81,7 +81,7 @@ posted_cases true x m w h = inr h
 posted_cases false x m w h = waits_cases x m w h
 
 posted_waits : (away : Bool) (m : Message) (w : List Message) → away ≡ false → Waits m (posted away m w)
-posted_waits true m w e = absurd (clash refl e)
+posted_waits true m w e = cc
 posted_waits false m w e = waits_head m w
 
 none_away : (a b : Bool) (m : ℕ) → m + cond (a && b) 1 0 ≡ 0 → a ≡ true → b ≡ false

@@ -5,7 +5,6 @@ use Rattle.agreement.specs.Messages.{Same}
 use Rattle.agreement.specs.Station.{Setting, size, speech}
 use Rattle.agreement.specs.Rig.{Rig, Opened, Call, Step, Answer, acted, delivered, sent, lost, repeated, refused}
 use Rattle.agreement.specs.Theorems.{MessagesStayWithin}
-use Rattle.agreement.proofs.Closing.{none_some}
 use Rattle.agreement.proofs.Waiting.{message_from, message_to, Waits, nothing_waits, waits_head, waits_tail}
 use Rattle.agreement.proofs.Waiting.{waits_cases, waits_same}
 use Rattle.agreement.proofs.Turns.{spoken_new}
@@ -58,7 +57,7 @@ module _ (g : Setting) (r r' : Rig) (w : Within g r) where
 within_opened : (g : Setting) (r : Rig) → Opened g r → Within g r
 within_opened g r o = record {
   waiting = λ x h. absurd (nothing_waits x r.waiting o.waiting h);
-  last = λ x h. absurd (none_some (sym o.last ∙ h));
+  last = λ x h. cc (sym o.last ∙ h);
 }
 
 pub messages_stay_within : MessagesStayWithin

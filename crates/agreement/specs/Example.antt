@@ -1,4 +1,4 @@
--- Runs of a rig of a single station that opens with 1, step by step.
+-- Runs of a rig of a single station that opens with 1: one through a stage, step by step, and one to the end.
 use Rattle.std.specs.Prelude.{◌≡◌, Bool, true, false, List, [], ◌∷◌, length, Some as some, None as none, ◌==◌, nat_le}
 use Rattle.agreement.specs.Sets.{tally}
 use Rattle.agreement.specs.Families.{Families, Laws}
@@ -8,7 +8,7 @@ use Rattle.agreement.specs.Rig.{Rig, Opened, Call, turn, deliver, Plays}
 use Rattle.agreement.specs.Rig.{Answer, acted, delivered, refused}
 use Rattle.agreement.specs.Law.{Narrow, OpenAlike, Unopposed, Quiet, Finished}
 
--- No guest is tolerated.
+-- A fault rule of one station that tolerates only the empty set.
 abbrev pub nobody : Families
 nobody = record { n = 1; wide = λ X. nat_le (tally 1 X) 0; narrow = λ X. nat_le (tally 1 X) 0 }
 

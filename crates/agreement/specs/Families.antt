@@ -12,19 +12,19 @@ pub record Families : Type 0 where
   pub wide : Family
   pub narrow : Family
 
--- Law 1: every part of a tolerable set is tolerable in the same family; stations from n on do not count.
+-- Law 1: with fewer guests a tolerated set stays tolerated in its sense; stations from n on do not count.
 abbrev pub DownwardClosed : ℕ → Family → Type 0
 DownwardClosed n family = (X Y : Set) → Part n X Y → family Y ≡ true → family X ≡ true
 
--- Law 2: a narrow-tolerable set is wide-tolerable.
+-- Law 2: whatever is tolerated narrowly is tolerated widely.
 abbrev pub NarrowIsWide : Families → Type 0
 NarrowIsWide f = (X : Set) → f.narrow X ≡ true → f.wide X ≡ true
 
--- Law 3: the empty set is narrow-tolerable.
+-- Law 3: to have no guests is tolerated narrowly.
 abbrev pub EmptyIsNarrow : Families → Type 0
 EmptyIsNarrow f = f.narrow (λ _. false) ≡ true
 
--- Law 4: no two wide-tolerable sets and one narrow-tolerable set together hold all n stations.
+-- Law 4: two wide sets with a narrow one always leave some station out.
 abbrev pub NoCover : Families → Type 0
 NoCover f =
     (X Y Z : Set) → f.wide X ≡ true → f.wide Y ≡ true → f.narrow Z ≡ true → Cover f.n X Y Z → ⊥

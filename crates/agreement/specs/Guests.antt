@@ -48,8 +48,9 @@ refusals =
     ∷ (send (from_to 0 1 1 0 0), refused 15)
     ∷ []
 
--- The guest proposes 1; its second proposal, a stage past the last, a value above 2, a commit in stage 1, one of a value
--- above 1, and a kind above 3 are ignored. Its commit to the other own station is heard, and a message to itself is not.
+-- The guest proposes 1; its second proposal changes nothing. Ignored are a stage past the last, a value above 2, a commit
+-- in stage 1, one of a value above 1, and a kind above 3. Its commit to the other own station is heard; a message to itself
+-- is not.
 abbrev pub told : List (Call × Answer)
 told =
     tells (from_to 2 0 2 0 1) true
@@ -62,8 +63,8 @@ told =
     ++ tells (from_to 2 1 3 0 1) true
     ++ tells to_itself false
 
--- A message that is lost can be repeated. While two wait, station 0 opens: one of its three messages is taken, and then
--- nothing else is, until some are lost.
+-- What was delivered can be repeated after a copy was lost. While two wait, station 0 opens: the network holds one of its
+-- three messages and turns the others away, and then also a guest message and a repeat. Two are lost, one is delivered.
 abbrev pub crowded : List (Call × Answer)
 crowded =
     (repeat, repeated to_itself)

@@ -65,7 +65,7 @@ Unanimity g v r =
     ((i round half : ℕ) (x : Grading) → Own g i → half < 2 → grading_in r i round half ≡ some x → x ≡ (some (bit v), 2))
     × ((i b : ℕ) → Own g i → (r.station i).decision ≡ some b → b ≡ bit v)
 
--- No message from an own to an own station waits, and no own station has an act that applies.
+-- Between own stations nothing waits, and each of them is idle.
 abbrev pub Quiet : Setting → Rig → Type 0
 Quiet g r =
     ((m : Message) → Own g m.sender → Own g m.addressee → copies m r.waiting ≡ 0)

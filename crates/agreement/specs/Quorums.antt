@@ -1,4 +1,4 @@
--- What the four laws give of quorums and blocking sets.
+-- What the four laws give of quorums and blocking sets; and that stations from n on are ignored.
 use Rattle.std.specs.Prelude.{◌≡◌, ℕ, true, ◌⊎◌}
 use Rattle.agreement.specs.Sets.{Set, below, Part, Cover, Some, both, outside, without}
 use Rattle.agreement.specs.Families.{Families, Family, Laws, DownwardClosed, Blocking, Quorum}

@@ -1,11 +1,10 @@
 -- What else is proved of stations and runs.
-use Rattle.std.specs.Prelude.{◌≡◌, ◌≢◌, ℕ, ◌+◌, ◌*◌, ◌^◌, ◌<◌, ◌≤◌, Bool, true, false, if◌then◌else◌, ◌⊎◌, List, map, Some as some, None as none, Option, ◌==◌}
+use Rattle.std.specs.Prelude.{◌≡◌, ◌≢◌, ℕ, ◌+◌, ◌*◌, ◌^◌, ◌<◌, ◌≤◌, Bool, true, false, if◌then◌else◌, ◌⊎◌, ◌↔◌, List, map, Some as some, None as none, Option, ◌==◌}
 use Rattle.std.specs.Option.{option_or}
-use Rattle.agreement.specs.Sets.{either, only}
 use Rattle.agreement.specs.declared.message.Message.{Message}
 use Rattle.agreement.specs.Messages.{copies, Same, Payload, prepare, propose, commit}
 use Rattle.agreement.specs.Families.{Blocking, Quorum}
-use Rattle.agreement.specs.Station.{Setting, size, stages, Own, Station, fresh_station, Idle, Applies, Before, Due, after_act, speech}
+use Rattle.agreement.specs.Station.{Setting, size, stages, Own, Station, fresh_station, proposers, Idle, Applies, Before, Due, after_act, speech}
 use Rattle.agreement.specs.Station.{Act, opening, joining, admitting, closing, deciding}
 use Rattle.agreement.specs.Station.{bit, Grading, grading_of, bit_at_two, bit_above_zero}
 use Rattle.agreement.specs.Rig.{Rig, Opened, Call, Step, Plays, capped_count}
@@ -20,22 +19,24 @@ OneActDue = (g : Setting) (s : Station) (a b : Act) → Due g s a → Due g s b 
 abbrev pub DueOrIdle : Type 0
 DueOrIdle = (g : Setting) (s : Station) → ((a : Act) × Due g s a) ⊎ Idle g s
 
--- What it means that no act applies: in each stage up to its own the station has prepared its input and what blocking sets
--- prepared, and admitted what quorums prepared; and it has decided where a blocking set committed a bit.
+-- A station has done all that the rules ask of it: it has prepared the input of its stage; in each stage up to that one it
+-- has prepared what a blocking set prepared, and admitted what a quorum prepared; those who proposed what it admitted in
+-- its stage are no quorum yet; and it has decided, or no blocking set committed a bit.
 pub record Served (g : Setting) (s : Station) : Type 0 where
   pub opened : s.stage < stages g → s.prepared s.stage (s.input s.stage) ≡ true
   pub joined :
       (σ v : ℕ) → σ ≤ s.stage → σ < stages g → v ≤ 2 → Blocking g.rule (s.preparers σ v) → s.prepared σ v ≡ true
   pub admitted :
       (σ v : ℕ) → σ ≤ s.stage → σ < stages g → v ≤ 2 → Quorum g.rule (s.preparers σ v) → s.admitted σ v ≡ true
+  pub unbacked : s.stage < stages g → Quorum g.rule (proposers s s.stage (s.admitted s.stage)) → ⊥
   pub decided : (b : ℕ) → b ≤ 1 → Blocking g.rule (s.committers b) → s.decision ≢ none
 
--- So it is at every station at which no act applies.
+-- No act applies exactly at such a station.
 abbrev pub IdleIsServed : Type 0
-IdleIsServed = (g : Setting) (s : Station) → Idle g s → Served g s
+IdleIsServed = (g : Setting) (s : Station) → Idle g s ↔ Served g s
 
--- The order in which acts are tried, link by link: stages ascending, rules 1 to 4 within a stage, values ascending, and
--- rule 5 last.
+-- The order in which acts are tried, link by link. An earlier stage goes first; in a stage opening, joining by value,
+-- admitting by value, closing; deciding comes after everything.
 pub record OrderOfTrying : Type 0 where
   pub open_then_join : (σ u v : ℕ) → Before (opening σ u) (joining σ v)
   pub join_then_join : (σ u v : ℕ) → u < v → Before (joining σ u) (joining σ v)
@@ -46,15 +47,19 @@ pub record OrderOfTrying : Type 0 where
   pub close_then_decide : (σ b : ℕ) (P : ℕ → Bool) → Before (closing σ P) (deciding b)
   pub decide_then_decide : (b c : ℕ) → b < c → Before (deciding b) (deciding c)
   pub transitive : (a b c : Act) → Before a b → Before b c → Before a c
+  pub irreflexive : (a : Act) → Before a a → ⊥
 
 -- How sets are graded.
 pub record Gradings : Type 0 where
-  pub bit_alone : (b : Bool) → grading_of (only (bit b)) ≡ (some (bit b), 2)
-  pub bit_and_blank : (b : Bool) → grading_of (either (only (bit b)) (only 2)) ≡ (some (bit b), 1)
+  pub zero_alone : (P : ℕ → Bool) → P 0 ≡ true → P 1 ≡ false → P 2 ≡ false → grading_of P ≡ (some 0, 2)
+  pub zero_and_blank : (P : ℕ → Bool) → P 0 ≡ true → P 1 ≡ false → P 2 ≡ true → grading_of P ≡ (some 0, 1)
+  pub one_alone : (P : ℕ → Bool) → P 0 ≡ false → P 1 ≡ true → P 2 ≡ false → grading_of P ≡ (some 1, 2)
+  pub one_and_blank : (P : ℕ → Bool) → P 0 ≡ false → P 1 ≡ true → P 2 ≡ true → grading_of P ≡ (some 1, 1)
   pub both_bits : (P : ℕ → Bool) → P 0 ≡ true → P 1 ≡ true → grading_of P ≡ (none, 0)
   pub no_bit : (P : ℕ → Bool) → P 0 ≡ false → P 1 ≡ false → grading_of P ≡ (none, 0)
 
--- Closing stage σ with set P leaves this next input, this grading and this commitment.
+-- Closing stage σ with set P makes the next stage the current one, and leaves this input there, this grading of σ and this
+-- commitment.
 abbrev pub Leaves : Setting → Station → ℕ → (ℕ → Bool) → ℕ → Option Grading → Option ℕ → Type 0
 Leaves g s σ P next grading committed =
     let t = after_act g (closing σ P) s in
@@ -79,12 +84,13 @@ Does s (prepare σ v) = s.prepared σ v ≡ true
 Does s (propose σ v) = s.proposed σ ≡ some v
 Does s (commit b) = s.committed ≡ some b
 
--- What an act that applies says, its station had not done before and has done after; what else it has done, it had before.
+-- What an act that applies says, its station had not done before. What it says, and what the station had done, is done
+-- after it, and nothing else is.
 abbrev pub SaidOnce : Type 0
 SaidOnce =
     (g : Setting) (s : Station) (a : Act) (p : Payload) → Applies g s a
-    → (speech a s ≡ some p → (Does s p → ⊥) × Does (after_act g a s) p)
-    × (Does (after_act g a s) p → Does s p ⊎ (speech a s ≡ some p))
+    → (speech a s ≡ some p → Does s p → ⊥)
+    × (Does (after_act g a s) p ↔ (Does s p ⊎ (speech a s ≡ some p)))
 
 -- Of every run on an opened rig: P holds of the answers and the rig that it came to.
 abbrev pub Always : (Setting → List Answer → Rig → Type 0) → Type 0
@@ -103,11 +109,12 @@ OpensBeforeClosing =
     Always (λ g answers r. (i σ : ℕ) → Own g i → σ < (r.station i).stage
     → (r.station i).prepared σ ((r.station i).input σ) ≡ true)
 
--- An own station has prepared and admitted nothing in a stage ahead of its own.
+-- An own station has done nothing in a stage ahead of its own.
 abbrev pub NothingAhead : Type 0
 NothingAhead =
     Always (λ g answers r. (i σ v : ℕ) → Own g i → (r.station i).stage < σ
-    → ((r.station i).prepared σ v ≡ false) × ((r.station i).admitted σ v ≡ false))
+    → ((r.station i).prepared σ v ≡ false) × ((r.station i).admitted σ v ≡ false)
+    × ((r.station i).proposed σ ≡ none) × ((r.station i).grading σ ≡ none))
 
 -- A decision, once made, is never changed by any later calls.
 abbrev pub DecisionsLast : Type 0
@@ -124,16 +131,26 @@ MessagesStayWithin =
 abbrev pub PostedBounded : Type 0
 PostedBounded = Always (λ g answers r. r.posted ≤ size g ^ 2 * (16 * g.rounds + 1))
 
--- The missing count is exact up to the largest number of 32 bits, and stays there.
-abbrev pub MissingStops : Type 0
-MissingStops =
-    ((m : ℕ) → m ≤ 4294967295 → capped_count m ≡ m) × Always (λ g answers r. r.missing ≤ 4294967295)
+-- The cap changes no count up to the largest number of 32 bits, and makes every larger one that.
+abbrev pub CapAt32Bits : Type 0
+CapAt32Bits =
+    (m : ℕ) → (m ≤ 4294967295 → capped_count m ≡ m) × (4294967295 ≤ m → capped_count m ≡ 4294967295)
+
+-- No run's missing count goes past that number.
+abbrev pub MissingFits : Type 0
+MissingFits = Always (λ g answers r. r.missing ≤ 4294967295)
+
+-- And no calls make it fall.
+abbrev pub MissingGrows : Type 0
+MissingGrows =
+    (g : Setting) (calls : List Call) (answers : List Answer) (r r' : Rig) → Plays g calls answers r r'
+    → r.missing ≤ 4294967295 → r.missing ≤ r'.missing
 
 -- Every call on any rig has an answer.
 abbrev pub CallsAreAnswered : Type 0
 CallsAreAnswered = (g : Setting) (c : Call) (r : Rig) → (a : Answer) × (r' : Rig) × Step g c a r r'
 
--- Two rigs are alike: the same but for the order of what waits.
+-- Two rigs are alike: the same in the stations that there are and in all else, but for the order of what waits.
 pub record Alike (g : Setting) (r q : Rig) : Type 0 where
   pub stations : (i : ℕ) → i < size g → r.station i ≡ q.station i
   pub waiting : Same r.waiting q.waiting

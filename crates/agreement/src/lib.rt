@@ -10,9 +10,11 @@ ghost use Rattle.agreement.specs.Quorums.{QuorumsMeet, QuorumBlocks, BlockingRea
 ghost use Rattle.agreement.specs.Quorums.{ComplementSuffices, OneBlocks, UpwardClosed, ClosedIgnores};
 ghost use Rattle.agreement.specs.Sets.{NumbersAreSets, SetsAreNumbers};
 ghost use Rattle.agreement.specs.Law.{EveryRun};
-ghost use Rattle.agreement.specs.Theorems.{OneActDue, DueOrIdle, IdleIsServed, NothingAhead, CallsAreAnswered, OnlyTakesAreOpen, RunsGoByTakes};
-ghost use Rattle.agreement.specs.Theorems.{OrderOfTrying, SaidOnce, Gradings, ClosingsByQuarter, MissingStops};
-ghost use Rattle.agreement.specs.Theorems.{StationsFollowRules, OpensBeforeClosing, DecisionsLast, MessagesStayWithin, PostedBounded};
+ghost use Rattle.agreement.specs.Theorems.{OneActDue, DueOrIdle, IdleIsServed, OrderOfTrying, SaidOnce};
+ghost use Rattle.agreement.specs.Theorems.{Gradings, ClosingsByQuarter, CapAt32Bits, MissingFits, MissingGrows};
+ghost use Rattle.agreement.specs.Theorems.{CallsAreAnswered, OnlyTakesAreOpen, RunsGoByTakes};
+ghost use Rattle.agreement.specs.Theorems.{StationsFollowRules, OpensBeforeClosing, NothingAhead, DecisionsLast};
+ghost use Rattle.agreement.specs.Theorems.{MessagesStayWithin, PostedBounded};
 ghost use Rattle.agreement.specs.Example.{SingleRun, QuietRun};
 ghost use Rattle.agreement.specs.Guests.{GuestRun};
 
@@ -27,7 +29,8 @@ pub fn sets_are_numbers()
     ensures each_set_has_a_number { SetsAreNumbers }
 {}
 
-/// What the four laws say of quorums and blocking sets, for every pair of families that keeps them.
+/// What the four laws say of quorums and blocking sets, for every pair of families that keeps them; and that stations from
+/// n on are ignored.
 pub fn laws_give_quorums()
     ensures quorums_meet { QuorumsMeet }
     ensures quorum_outside_narrow_blocks { QuorumBlocks }
@@ -69,7 +72,7 @@ pub fn stations_open_before_they_close()
     ensures { OpensBeforeClosing }
 {}
 
-/// After every run an own station has prepared and admitted nothing in a stage ahead of its own.
+/// After every run an own station has done nothing in a stage ahead of its own: prepared, admitted, proposed or graded.
 pub fn stations_do_nothing_ahead()
     ensures { NothingAhead }
 {}
@@ -85,13 +88,13 @@ pub fn an_act_is_due_or_none_applies()
     ensures { DueOrIdle }
 {}
 
-/// Where no act applies, all that the rules ask for has been done.
-#[tactic(auto, using(crate::proofs::Lasting::idle_is_served))]
+/// No act applies at a station exactly where it has done all that the rules ask of it.
+#[tactic(auto, using(crate::proofs::Due::idle_is_served))]
 pub fn idle_stations_have_done_their_part()
     ensures { IdleIsServed }
 {}
 
-/// Acts are tried by stages ascending, by rules 1 to 4 within a stage, by values ascending, and by rule 5 last.
+/// An earlier stage goes first; in a stage opening, joining by value, admitting by value, closing; deciding comes last.
 pub fn acts_are_tried_in_order()
     ensures { OrderOfTrying }
 {}
@@ -108,10 +111,13 @@ pub fn closing_goes_by_set_and_quarter()
     ensures by_quarter { ClosingsByQuarter }
 {}
 
-/// The count of missing messages is exact up to the largest number of 32 bits, and stays there.
-#[tactic(auto, using(crate::proofs::Missing::missing_stops))]
+/// The count of missing messages never falls and never goes past the largest number of 32 bits; below that the cap changes
+/// nothing.
+#[tactic(auto, using(crate::proofs::Missing::missing_fits, crate::proofs::Missing::missing_grows))]
 pub fn missing_stops_at_32_bits()
-    ensures { MissingStops }
+    ensures cap { CapAt32Bits }
+    ensures never_past { MissingFits }
+    ensures never_less { MissingGrows }
 {}
 
 /// Every call on any rig has an answer: it is refused with a number or done.

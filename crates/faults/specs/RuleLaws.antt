@@ -2,7 +2,7 @@
 use Rattle.std.proofs.Common.{◌≡◌, ℕ, min, ◌+◌, ◌*◌, ◌<◌, ◌≤◌, Bool, true, false, ◌&&◌, nat_le, nat_lt, List, length, refl, arith, ltb-true, le-leb, leb-true}
 use Rattle.agreement.specs.Sets.{Set, below, outside, tally}
 use Rattle.agreement.specs.Families.{Family, Families, DownwardClosed, Laws}
-use Rattle.agreement.proofs.Tests.{clash, and_left, and_right, and_both}
+use Rattle.agreement.proofs.Tests.{and_left, and_right, and_both}
 use Rattle.agreement.proofs.Quorums.{closed_ignores}
 use Rattle.agreement.proofs.Sets.{tally_part, tally_cover, tally_empty, part_inside}
 use Rattle.stations.specs.declared.StationSet.{StationSet}
@@ -41,8 +41,10 @@ listed_laws n W N some nested apart = record {
       let X' = members (at W j.0) in
       let Y' = members (at W k.0) in
       let Z' = members (at N i.0) in
-      clash (cover_larger n X Y Z X' Y' Z' (part_inside n X X' (j.2 0)) (part_inside n Y Y' (k.2 0)) (part_inside n Z Z' (i.2 0)) c)
-      (apart.none i.0 j.0 k.0 i.1 j.1 k.1);
+      let covers =
+      cover_larger n X Y Z X' Y' Z' (part_inside n X X' (j.2 0)) (part_inside n Y Y' (k.2 0)) (part_inside n Z Z' (i.2 0)) c
+      in
+      cc (covers, apart.none i.0 j.0 k.0 i.1 j.1 k.1);
 }
 
 -- what a family and another, which is shown the stations below n alone, both tolerate
@@ -53,7 +55,7 @@ both_parts n m F G f g X Y p h =
   where
     narrowed : (j : ℕ) (b : Bool) → nat_lt j n ≡ b → (b && X j) ≡ true → (b && Y j) ≡ true
     narrowed j true e h = p j (ltb-true j n e) h
-    narrowed j false e h = absurd (clash h refl)
+    narrowed j false e h = cc
 
 pub both_laws : (f g : Families) → Laws f → Laws g → Laws (both_of f g)
 both_laws f g p q = record {

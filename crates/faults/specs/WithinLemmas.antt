@@ -1,6 +1,6 @@
 -- Proved: what lies inside a listed set.
 use Rattle.std.proofs.Common.{◌≡◌, ℕ, ◌<◌, Bool, true, false, ◌||◌, List, length, refl, inl, inr}
-use Rattle.agreement.proofs.Tests.{true_or_false, clash}
+use Rattle.agreement.proofs.Tests.{true_or_false}
 use Rattle.std.proofs.lemmas.List.{get_or_default}
 use Rattle.std.proofs.lemmas.Bool.Decides.{Decides-by_or}
 use Rattle.std.specs.Bool.{Decides}
@@ -31,7 +31,7 @@ within_some n L X e = let r = (within_decides n L X).0 e in (r.0, r.1, part_insi
 pub within_none : (n : ℕ) (L : List StationSet) (X : Set)
     → ((i : ℕ) → i < length L → inside n X (members (at L i)) ≡ false) → within n L X ≡ false
 within_none n L X h = elim (true_or_false (within n L X)) [
-  | inl t ↦ let r = within_some n L X t in absurd (clash r.2 (h r.0 r.1))
+  | inl t ↦ let r = within_some n L X t in cc (r.2, h r.0 r.1)
   | inr f ↦ f
 ]
 
