@@ -27,25 +27,16 @@ pub good_with_prepared : (g : Setting) (W W' : World) (i σ v : ℕ) (s : Statio
 good_with_prepared g W W' i σ v s w d₀ a b c o =
     let d = good_grows g W W' i s w d₀ in
     record {
-      heard_prepare = d.heard_prepare;
-      heard_propose = d.heard_propose;
-      heard_commit = d.heard_commit;
+      heard = d.heard;
       prepared = λ x y e. elim (added (s.prepared x y) x y σ v e) [
         | inl t ↦ d.prepared x y t
         | inr q ↦ rw (q.0, q.1) (a, b, c, origin_grows g W W' σ v w o)
       ];
-      admitted = d.admitted;
-      first_admitted = d.first_admitted;
-      first_proposed = d.first_proposed;
-      stage = d.stage;
-      opened_with = d.opened_with;
-      inputs = d.inputs;
+      admits = d.admits;
+      course = d.course;
       opened = λ x h. or_left (s.prepared x (s.input x)) (eqb x σ && eqb (s.input x) v) (d.opened x h);
-      closed = λ x h. let k = d.closed x h in
-          record { set = k.set; quorum = k.quorum; admitted = k.admitted; next = k.next; graded = k.graded };
-      graded = d.graded;
-      committed = d.committed;
-      commits = d.commits;
+      closed = d.closed;
+      grades = d.grades;
       decided = d.decided;
     }
 
@@ -63,22 +54,13 @@ pub good_deciding : (g : Setting) (W W' : World) (i b : ℕ) (s : Station) → G
 good_deciding g W W' i b s w d₀ h =
     let d = good_grows g W W' i s w d₀ in
     record {
-      heard_prepare = d.heard_prepare;
-      heard_propose = d.heard_propose;
-      heard_commit = d.heard_commit;
+      heard = d.heard;
       prepared = d.prepared;
-      admitted = d.admitted;
-      first_admitted = d.first_admitted;
-      first_proposed = d.first_proposed;
-      stage = d.stage;
-      opened_with = d.opened_with;
-      inputs = d.inputs;
+      admits = d.admits;
+      course = d.course;
       opened = d.opened;
-      closed = λ x h. let k = d.closed x h in
-          record { set = k.set; quorum = k.quorum; admitted = k.admitted; next = k.next; graded = k.graded };
-      graded = d.graded;
-      committed = d.committed;
-      commits = d.commits;
+      closed = d.closed;
+      grades = d.grades;
       decided = λ c e. let q : b ≡ c = cc in subst (λ x. Blocking g.rule (s.committers x)) q h;
     }
 
@@ -106,32 +88,30 @@ module _ (g : Setting) (σ v : ℕ) (s : Station) where
   good_admitting W W' i w d₀ a b c =
       let d = good_grows g W W' i s w d₀ in
       record {
-        heard_prepare = d.heard_prepare;
-        heard_propose = d.heard_propose;
-        heard_commit = d.heard_commit;
+        heard = d.heard;
         prepared = d.prepared;
-        admitted = λ x y e. elim (added (s.admitted x y) x y σ v e) [
-          | inl t ↦ d.admitted x y t
-          | inr q ↦ rw (q.0, q.1) (a, b, c)
-        ];
-        first_admitted = λ x y e. elim (same? x σ) [
-          | inl h ↦ elim (option_or-cases (s.proposed σ) (some v) y (sym (proposed_at x h) ∙ e)) [
-            | inl p ↦ rw h (still_admitted σ y (d.first_admitted σ y p))
-            | inr p ↦ or_right (s.admitted x y) (eqb x σ && eqb y v)
-                (and_both (eqb_is x σ h) (eqb_is y v (sym (cc p.1))))
-          ]
-          | inr h ↦ still_admitted x y (d.first_admitted x y (rw h at e))
-        ];
-        first_proposed = λ x y e. elim (same? x σ) [
-          | inl h ↦ let f = option_or-some (s.proposed σ) v in (f.0, proposed_at x h ∙ f.1)
-          | inr h ↦ elim (added (s.admitted x y) x y σ v e) [
-            | inl t ↦ let f = d.first_proposed x y t in (f.0, rw h f.1)
-            | inr q ↦ cc (eqb_is x σ q.0)
-          ]
-        ];
-        stage = d.stage;
-        opened_with = d.opened_with;
-        inputs = d.inputs;
+        admits = record {
+          admitted = λ x y e. elim (added (s.admitted x y) x y σ v e) [
+            | inl t ↦ d.admitted x y t
+            | inr q ↦ rw (q.0, q.1) (a, b, c)
+          ];
+          first_admitted = λ x y e. elim (same? x σ) [
+            | inl h ↦ elim (option_or-cases (s.proposed σ) (some v) y (sym (proposed_at x h) ∙ e)) [
+              | inl p ↦ rw h (still_admitted σ y (d.first_admitted σ y p))
+              | inr p ↦ or_right (s.admitted x y) (eqb x σ && eqb y v)
+                  (and_both (eqb_is x σ h) (eqb_is y v (sym (cc p.1))))
+            ]
+            | inr h ↦ still_admitted x y (d.first_admitted x y (rw h at e))
+          ];
+          first_proposed = λ x y e. elim (same? x σ) [
+            | inl h ↦ let f = option_or-some (s.proposed σ) v in (f.0, proposed_at x h ∙ f.1)
+            | inr h ↦ elim (added (s.admitted x y) x y σ v e) [
+              | inl t ↦ let f = d.first_proposed x y t in (f.0, rw h f.1)
+              | inr q ↦ cc (eqb_is x σ q.0)
+            ]
+          ];
+        };
+        course = d.course;
         opened = d.opened;
         closed = λ x h. let k = d.closed x h in record {
           set = k.set;
@@ -140,8 +120,6 @@ module _ (g : Setting) (σ v : ℕ) (s : Station) where
           next = k.next;
           graded = k.graded;
         };
-        graded = d.graded;
-        committed = d.committed;
-        commits = d.commits;
+        grades = d.grades;
         decided = d.decided;
       }

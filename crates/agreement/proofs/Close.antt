@@ -1,5 +1,5 @@
 -- Closing a stage keeps the station's facts.
-use Rattle.std.proofs.Common.{◌≡◌, ℕ, ◌+◌, ◌-◌, ◌*◌, ◌/◌, ◌%◌, ◌<◌, ◌≤◌, Bool, true, false, eqb, Some as some, None as none, Option, sym, refl, ap, ◌∙◌, inl, inr, arith}
+use Rattle.std.proofs.Common.{◌≡◌, ℕ, ◌+◌, ◌-◌, ◌*◌, ◌/◌, ◌<◌, ◌≤◌, Bool, true, false, eqb, Some as some, None as none, Option, sym, refl, ap, ◌∙◌, inl, inr, arith}
 use Rattle.std.specs.Option.{option_map_or}
 use Rattle.agreement.specs.Families.{Laws, Quorum}
 use Rattle.agreement.specs.Station.{Setting, stages, Station, Grading, next_input, grading_made, bit_to_commit, grading_of}
@@ -8,7 +8,7 @@ use Rattle.agreement.proofs.Tests.{same?}
 use Rattle.agreement.proofs.Closing.{option_or-cases, option_or-keeps, option_or-some, follows_bits, makes_odd}
 use Rattle.agreement.proofs.Closing.{commits_is, commits_does}
 use Rattle.agreement.proofs.Own.{quorum_grows}
-use Rattle.agreement.proofs.Facts.{World, Closed, Good, Ext, Grow, good_grows}
+use Rattle.agreement.proofs.Facts.{World, Inputs, Closed, Good, Ext, Grow, good_grows}
 use Rattle.agreement.proofs.Acts.{put_at, put_off}
 
 -- every backer's value is in the proposal set
@@ -44,15 +44,18 @@ module _ (g : Setting) (σ : ℕ) (P : ℕ → Bool) (s : Station) where
   }
 
   -- inputs are values, and bits in even stages
-  pub inputs_closing : ((x : ℕ) → x ≤ σ → (s.input x ≤ 2) × (x % 2 ≡ 0 → s.input x ≤ 1)) → (x : ℕ) → x ≤ σ + 1
-      → ((after_act g (closing σ P) s).input x ≤ 2) × (x % 2 ≡ 0 → (after_act g (closing σ P) s).input x ≤ 1)
+  pub inputs_closing : Inputs σ s.input → Inputs (σ + 1) (after_act g (closing σ P) s).input
   inputs_closing d x h = elim (same? x (σ + 1)) [
     | inl e ↦ rw e (rw input_at
         (follows_bits g σ P (s.input (σ - 1)) (λ o. (d (σ - 1) (omega arith)).1 (omega arith))))
     | inr e ↦ let k = at_most x σ h e in rw (input_off x k) (d x k)
   ]
 
-  closed_before : (x : ℕ) → x < σ → Closed g s x → Closed g (after_act g (closing σ P) s) x
+  -- what closing leaves of a stage that is closed
+  abbrev ClosedAfter : ℕ → Type 0
+  ClosedAfter = let t = after_act g (closing σ P) s in Closed g t.proposal t.admitted t.input t.grading
+
+  closed_before : (x : ℕ) → x < σ → Closed g s.proposal s.admitted s.input s.grading x → ClosedAfter x
   closed_before x h k = record {
     set = k.set;
     quorum = k.quorum;
@@ -62,7 +65,7 @@ module _ (g : Setting) (σ : ℕ) (P : ℕ → Bool) (s : Station) where
   }
 
   closed_now : Laws g.rule → Quorum g.rule (proposers s σ (s.admitted σ)) → ProposalSet g s σ P
-      → Closed g (after_act g (closing σ P) s) σ
+      → ClosedAfter σ
   closed_now laws q val = record {
     set = P;
     quorum = quorum_grows g laws (proposers s σ (s.admitted σ)) (proposers s σ P)
@@ -78,16 +81,14 @@ module _ (g : Setting) (σ : ℕ) (P : ℕ → Bool) (s : Station) where
   good_closing laws W W' i w d₀ at below q val opened =
       let d = good_grows g W W' i s w d₀ in
       record {
-        heard_prepare = d.heard_prepare;
-        heard_propose = d.heard_propose;
-        heard_commit = d.heard_commit;
+        heard = d.heard;
         prepared = λ x y e. let p = d.prepared x y e in (omega (arith, p.0), p.1, p.2, p.3);
-        admitted = d.admitted;
-        first_admitted = d.first_admitted;
-        first_proposed = d.first_proposed;
-        stage = omega arith;
-        opened_with = input_off 0 (omega arith) ∙ d.opened_with;
-        inputs = inputs_closing (λ x h. d.inputs x (omega arith));
+        admits = d.admits;
+        course = record {
+          stage = omega arith;
+          opened_with = input_off 0 (omega arith) ∙ d.opened_with;
+          inputs = inputs_closing (λ x h. d.inputs x (omega arith));
+        };
         opened = λ x h. elim (same? x σ) [
           | inl e ↦ rw (input_off x (omega arith)) (rw e opened)
           | inr e ↦ let k : x < σ = grind arith in rw (input_off x (omega arith)) (d.opened x (omega arith))
@@ -96,27 +97,29 @@ module _ (g : Setting) (σ : ℕ) (P : ℕ → Bool) (s : Station) where
           | inl e ↦ rw e (closed_now laws q val)
           | inr e ↦ let k : x < σ = grind arith in closed_before x k (d.closed x (omega arith))
         ];
-        graded = λ x y e. elim (same? x σ) [
-          | inl h ↦ omega arith
-          | inr h ↦ let k : x < s.stage = d.graded x y (rw h at e) in omega arith
-        ];
-        committed = λ b e. elim (option_or-cases s.committed (bit_to_commit σ P) b e) [
-          | inl p ↦ let k = d.committed b p in
-              (k.0, omega (arith, k.1), grading_off (4 * k.0 + 3) (omega (arith, k.1)) ∙ k.2)
-          | inr p ↦ let k = commits_is σ P b p.1 in let h : 4 * (σ / 4) + 3 ≡ σ = omega (arith, k.0) in (
-            σ / 4,
-            omega arith,
-            rw h (grading_at ∙ (makes_odd σ P (omega (arith, k.0)) ∙ ap {B = Option Grading} some k.1)),
-          )
-        ];
-        commits = λ ρ b e. elim (same? (4 * ρ + 3) σ) [
-          | inl h ↦
-              let t : some (grading_of P) ≡ some (some b, 2)
-              = sym (makes_odd σ P (omega arith)) ∙ (sym grading_at ∙ (rw h at e)) in
-              let u : grading_of P ≡ (some b, 2) = cc in
-              let f = option_or-some s.committed b in
-              (f.0, rw (commits_does σ P b (omega arith) u) f.1)
-          | inr h ↦ let f = d.commits ρ b (rw h at e) in (f.0, option_or-keeps s.committed (bit_to_commit σ P) f.0 f.1)
-        ];
+        grades = record {
+          graded = λ x y e. elim (same? x σ) [
+            | inl h ↦ omega arith
+            | inr h ↦ let k : x < s.stage = d.graded x y (rw h at e) in omega arith
+          ];
+          committed = λ b e. elim (option_or-cases s.committed (bit_to_commit σ P) b e) [
+            | inl p ↦ let k = d.committed b p in
+                (k.0, omega (arith, k.1), grading_off (4 * k.0 + 3) (omega (arith, k.1)) ∙ k.2)
+            | inr p ↦ let k = commits_is σ P b p.1 in let h : 4 * (σ / 4) + 3 ≡ σ = omega (arith, k.0) in (
+              σ / 4,
+              omega arith,
+              rw h (grading_at ∙ (makes_odd σ P (omega (arith, k.0)) ∙ ap {B = Option Grading} some k.1)),
+            )
+          ];
+          commits = λ ρ b e. elim (same? (4 * ρ + 3) σ) [
+            | inl h ↦
+                let t : some (grading_of P) ≡ some (some b, 2)
+                = sym (makes_odd σ P (omega arith)) ∙ (sym grading_at ∙ (rw h at e)) in
+                let u : grading_of P ≡ (some b, 2) = cc in
+                let f = option_or-some s.committed b in
+                (f.0, rw (commits_does σ P b (omega arith) u) f.1)
+            | inr h ↦ let f = d.commits ρ b (rw h at e) in (f.0, option_or-keeps s.committed (bit_to_commit σ P) f.0 f.1)
+          ];
+        };
         decided = d.decided;
       }

@@ -1,5 +1,5 @@
 -- How much turns can post: what each own station says is counted in what it did, and that is bounded.
-use Rattle.std.proofs.Common.{◌≡◌, ℕ, zero, suc, ◌+◌, ◌*◌, ◌%◌, ◌^◌, ◌<◌, ◌≤◌, Bool, true, false, cond, if◌then◌else◌, ◌&&◌, ◌||◌, eqb, Some as some, None as none, Option, option_map, is_none, sym, refl, ap, ◌∙◌, subst, inl, inr, mul_assoc, mul-le-mul_left, pow-suc, arith}
+use Rattle.std.proofs.Common.{◌≡◌, ℕ, zero, suc, ◌+◌, ◌*◌, ◌^◌, ◌<◌, ◌≤◌, Bool, true, false, cond, if◌then◌else◌, ◌&&◌, ◌||◌, eqb, Some as some, None as none, Option, option_map, is_none, sym, refl, ap, ◌∙◌, subst, inl, inr, mul_assoc, mul-le-mul_left, pow-suc, arith}
 use Rattle.std.specs.Option.{option_or}
 use native.Mathlib.Nat.{pow-zero}
 use Rattle.agreement.specs.declared.message.Message.{Message}
@@ -11,7 +11,7 @@ use Rattle.agreement.specs.Rig.{Answer, acted, delivered, sent, lost, repeated, 
 use Rattle.agreement.specs.Theorems.{PostedBounded}
 use Rattle.agreement.proofs.Tests.{same?, adds, up_to_two}
 use Rattle.agreement.proofs.Closing.{open_le}
-use Rattle.agreement.proofs.Facts.{opens_with, changed}
+use Rattle.agreement.proofs.Facts.{opens_with, Inputs, changed}
 use Rattle.agreement.proofs.Acts.{proposed_at}
 use Rattle.agreement.proofs.Close.{inputs_closing}
 use Rattle.agreement.proofs.Delivery.{when_told}
@@ -119,16 +119,13 @@ row_admitting g σ v s x = elim (same? x σ) [
   | inr e ↦ rw e (omega arith)
 ]
 
--- inputs are values
-abbrev Inputs : Station → Type 0
-Inputs s = (σ : ℕ) → σ ≤ s.stage → (s.input σ ≤ 2) × (σ % 2 ≡ 0 → s.input σ ≤ 1)
-
-inputs_after : (g : Setting) (a : Act) (s : Station) → Applies g s a → Inputs s → Inputs (after_act g a s)
+inputs_after : (g : Setting) (a : Act) (s : Station) → Applies g s a → Inputs s.stage s.input
+    → let t = after_act g a s in Inputs t.stage t.input
 inputs_after g (closing σ P) s p d = inputs_closing g σ P s (λ x h. d x (omega (arith, p.0)))
 inputs_after g a s p d = d
 
 -- an act says at most what it adds to the talk
-talk_after : (g : Setting) (a : Act) (s : Station) → Applies g s a → Inputs s
+talk_after : (g : Setting) (a : Act) (s : Station) → Applies g s a → Inputs s.stage s.input
     → talk g s + there (speech a s) ≤ talk g (after_act g a s)
 talk_after g (opening σ v) s p d =
     let i = (d σ (omega (arith, p.0))).0 in talk_with_prepared σ v s g p.1 (omega (arith, p.2)) p.3
@@ -149,7 +146,7 @@ abbrev share : Setting → (ℕ → Station) → ℕ → ℕ
 share g W i = cond (g.guest i) 0 (talk g (W i))
 
 record Bounded (g : Setting) (r : Rig) : Type 0 where
-  inputs : (i : ℕ) → Own g i → Inputs (r.station i)
+  inputs : (i : ℕ) → Own g i → Inputs (r.station i).stage (r.station i).input
   posted : r.posted ≤ size g * sum (size g) (share g r.station)
 
 share_grows : (g : Setting) (W W' : ℕ → Station) (x : ℕ) → talk g (W x) ≤ talk g (W' x) → share g W x ≤ share g W' x
@@ -161,7 +158,8 @@ share_grows g W W' x h = go (g.guest x)
 
 module _ (g : Setting) (r r' : Rig) (b : Bounded g r) where
   -- a call that posts nothing in a turn, and in which no talk falls
-  bounded_still : ((i : ℕ) → Own g i → Inputs (r'.station i)) → ((i : ℕ) → talk g (r.station i) ≤ talk g (r'.station i))
+  bounded_still : ((i : ℕ) → Own g i → Inputs (r'.station i).stage (r'.station i).input)
+      → ((i : ℕ) → talk g (r.station i) ≤ talk g (r'.station i))
       → r'.posted ≡ r.posted → Bounded g r'
   bounded_still inputs t e = record {
     inputs = inputs;
@@ -180,8 +178,8 @@ module _ (g : Setting) (r r' : Rig) (b : Bounded g r) where
   bounded_delivered m change c =
       let k = m.addressee in let W = r.station in
       bounded_still
-      (λ i. changed (λ x t. Own g x → Inputs t) k (addressee_after g m (W k)) W r'.station c.stations i
-      (λ _. when_told (λ t. Own g k → Inputs t) g m (W k) (b.inputs k) (b.inputs k)) (b.inputs i))
+      (λ i. changed (λ x t. Own g x → Inputs t.stage t.input) k (addressee_after g m (W k)) W r'.station c.stations i
+      (λ _. when_told (λ t. Own g k → Inputs t.stage t.input) g m (W k) (b.inputs k) (b.inputs k)) (b.inputs i))
       (λ i. changed (λ x t. talk g (W x) ≤ talk g t) k (addressee_after g m (W k)) W r'.station c.stations i
       (λ _. when_told (λ t. talk g (W k) ≤ talk g t) g m (W k) (omega arith) (omega arith)) (omega arith))
       c.counts.0
@@ -192,7 +190,7 @@ module _ (g : Setting) (r r' : Rig) (b : Bounded g r) where
 
   bounded_acted : (i : ℕ) (a : Act) → Acted g i a r r' → Bounded g r'
   bounded_acted i a c = record {
-    inputs = λ k. changed (λ x t. Own g x → Inputs t) i (after_act g a (r.station i)) r.station r'.station
+    inputs = λ k. changed (λ x t. Own g x → Inputs t.stage t.input) i (after_act g a (r.station i)) r.station r'.station
         c.stations k (λ _ o. inputs_after g a (r.station i) c.due.0 (b.inputs i o)) (b.inputs k);
     posted = omega (
       arith,

@@ -1,18 +1,15 @@
 -- The runs of a single station.
 use Rattle.std.proofs.Common.{◌≡◌, ℕ, zero, suc, ◌+◌, ◌*◌, ◌/◌, ◌<◌, Bool, true, false, cond, ◌&&◌, eqb, ltb, List, [], ◌∷◌, ◌++◌, Some as some, None as none, Option, sym, refl, inr, arith}
 use Rattle.agreement.specs.declared.message.Message.{Message}
-use Rattle.agreement.specs.Families.{DownwardClosed}
 use Rattle.agreement.specs.Messages.{Payload, prepare, propose, commit, message}
 use Rattle.agreement.specs.Station.{Own, Station, fresh_station, is_heeded, with_message, after_act, speech, next_input, bit_to_commit, put}
 use Rattle.agreement.specs.Station.{Act, opening, joining, admitting, closing, deciding, Applies, Idle, Before}
-use Rattle.agreement.specs.Rig.{Rig, Opened, Call, turn, deliver, Changes, Broadcasts, Step, Plays}
+use Rattle.agreement.specs.Rig.{Rig, Opened, Call, turn, deliver, Broadcasts, Step, Plays}
 use Rattle.agreement.specs.Rig.{Answer, acted, delivered, refused}
-use Rattle.agreement.specs.Example.{nobody, single, six_calls, SingleRun, QuietRun}
+use Rattle.agreement.specs.Example.{one_station, six_calls, SingleRun, QuietRun}
+use Rattle.agreement.proofs.Thresholds.{threshold_laws}
+use Rattle.agreement.proofs.Exact.{put_changes}
 use Rattle.agreement.proofs.Records.{new, new_changes}
-
--- a part of the empty set is empty
-parts : DownwardClosed 1 nobody.wide
-parts X Y p e = let k = p 0 (omega arith) in grind arith
 
 -- The station after k changes. Each stage takes five: 1 is prepared, that is heard, 1 is admitted and proposed, that is
 -- heard, the stage is closed. After the last stage its commitment to 1 is heard, and 1 is decided.
@@ -55,10 +52,6 @@ record RigAt (k : ℕ) (w : List Message) (r : Rig) : Type 0 where
 abbrev becomes : Station → Rig → List Message → Option Message → ℕ → Rig
 becomes s r w m n = record { station = put r.station 0 s; waiting = w; last = m; posted = n; missing = 0 }
 
--- no other station changes
-changes : (s : Station) (W : ℕ → Station) → Changes 0 s W (put W 0 s)
-changes s W = grind arith
-
 -- what waits after the station said something or nothing, if nothing waited before
 abbrev posts : Option Payload → List Message
 posts none = []
@@ -97,22 +90,22 @@ begins = record { station = grind arith; waiting = refl; missing = refl }
 
 module _ (coin : Bool) where
   -- no other applies
-  timely : (k : ℕ) (s : Station) → At k s → (a : Act) → Applies (single coin) s a → Timely k a
+  timely : (k : ℕ) (s : Station) → At k s → (a : Act) → Applies (one_station coin) s a → Timely k a
   timely k s h a p = grind arith
 
   -- calls cs with answers xs lead from k changes, where u waits, to l changes, where v waits
   record Leads (k : ℕ) (u : List Message) (cs : List Call) (xs : List Answer) (l : ℕ) (v : List Message) : Type 0 where
-    run : (r : Rig) → RigAt k u r → (r' : Rig) × Plays (single coin) cs xs r r' × RigAt l v r'
+    run : (r : Rig) → RigAt k u r → (r' : Rig) × Plays (one_station coin) cs xs r r' × RigAt l v r'
 
   -- one call
   once : {k l : ℕ} {u v : List Message} {c : Call} {x : Answer}
-      → ((r : Rig) → RigAt k u r → (r' : Rig) × Step (single coin) c x r r' × RigAt l v r')
+      → ((r : Rig) → RigAt k u r → (r' : Rig) × Step (one_station coin) c x r r' × RigAt l v r')
       → Leads k u (c ∷ []) (x ∷ []) l v
   once f = record { run = λ r h. let (q, s, i) = f r h in (q, (q, s, refl), i) }
 
   -- two runs in a row
-  joined : (cs ds : List Call) (xs ys : List Answer) (r q r' : Rig) → Plays (single coin) cs xs r q
-      → Plays (single coin) ds ys q r' → Plays (single coin) (cs ++ ds) (xs ++ ys) r r'
+  joined : (cs ds : List Call) (xs ys : List Answer) (r q r' : Rig) → Plays (one_station coin) cs xs r q
+      → Plays (one_station coin) ds ys q r' → Plays (one_station coin) (cs ++ ds) (xs ++ ys) r r'
   joined [] ds [] ys r q r' e p = rw (← e) p
   joined [] ds (x ∷ xs) ys r q r' e p = absurd e
   joined (c ∷ cs) ds [] ys r q r' e p = absurd e
@@ -131,25 +124,26 @@ module _ (coin : Bool) where
 
   -- none of it is turned away
   says : (p : Option Payload) (s : Station) (r : Rig) → r.waiting ≡ [] → r.missing ≡ 0
-      → (n : ℕ) × Broadcasts (single coin) 0 p r (becomes s r (posts p) r.last n)
+      → (n : ℕ) × Broadcasts (one_station coin) 0 p r (becomes s r (posts p) r.last n)
   says none s r e m = (r.posted, (λ x. rw e, refl, sym m))
   says (some p) s r e m = (r.posted + 1, (λ x. rw e, refl, rw (e, m)))
 
   -- a turn: an act that applies is the one due
   acts : {k l : ℕ} (a : Act) (p : Option Payload)
-      → ((s : Station) → At k s → Applies (single coin) s a × (speech a s ≡ p) × At l (after_act (single coin) a s))
+      → ((s : Station) → At k s → Applies (one_station coin) s a × (speech a s ≡ p)
+      × At l (after_act (one_station coin) a s))
       → Leads k [] (turn 0 ∷ []) (acted 0 a ∷ []) l (posts p)
   acts {k} a p f = once (λ r h.
       let s = r.station 0 in
       let (d, e, i) = f s h.station in
-      let (n, b) = says p (after_act (single coin) a s) r h.waiting h.missing in (
-        becomes (after_act (single coin) a s) r (posts p) r.last n,
+      let (n, b) = says p (after_act (one_station coin) a s) r h.waiting h.missing in (
+        becomes (after_act (one_station coin) a s) r (posts p) r.last n,
         (
           refl,
           record {
             by_own = (omega arith, refl);
             due = (d, λ x y z. alone k a x (timely k s h.station a d) (timely k s h.station x z) y);
-            stations = changes (after_act (single coin) a s) r.station;
+            stations = put_changes 0 (after_act (one_station coin) a s) r.station;
             posts = rw e b;
             last = refl;
           },
@@ -177,7 +171,7 @@ module _ (coin : Bool) where
           refl,
           record {
             waiting = λ x. rw h.waiting;
-            stations = rw d (changes (with_message m s) r.station);
+            stations = rw d (put_changes 0 (with_message m s) r.station);
             changed = λ _. new_changes m s e;
             unchanged = λ x. cc;
             last = refl;
@@ -188,12 +182,12 @@ module _ (coin : Bool) where
       ))
 
   -- a stage that closes with {1} is followed by input 1
-  follows_one : (σ v : ℕ) → next_input (single coin) σ one v ≡ 1
+  follows_one : (σ v : ℕ) → next_input (one_station coin) σ one v ≡ 1
   follows_one σ v = grind arith
 
   -- closing a stage
   closes : (σ : ℕ) → σ < 4 → (s : Station) → At (5 * σ + 4) s → let a = closing σ one in
-      Applies (single coin) s a × (speech a s ≡ last_word σ) × At (5 * σ + 5) (after_act (single coin) a s)
+      Applies (one_station coin) s a × (speech a s ≡ last_word σ) × At (5 * σ + 5) (after_act (one_station coin) a s)
   closes σ l s h =
       let c : s.committed ≡ none = grind arith in
       (grind arith, rw (c, commits_one σ l) (grind arith), rw (c, follows_one, commits_one σ l) (grind arith))
@@ -222,7 +216,7 @@ module _ (coin : Bool) where
   )
 
   -- so it is, in the setting
-  opened : Opened (single coin) start
+  opened : Opened (one_station coin) start
   opened = record {
     stations = elim [ zero ↦ λ _. refl | suc i ↦ λ o. absurd (omega (arith, o)) ];
     waiting = refl;
@@ -234,13 +228,7 @@ module _ (coin : Bool) where
 -- the six calls in stage 0
 pub single_run : SingleRun
 single_run = let (r, p, h) = (stage false 0 (omega arith)).run start begins in record {
-  lawful = record {
-    wide_parts = parts;
-    narrow_parts = parts;
-    narrow_is_wide = λ X e. e;
-    empty_is_narrow = refl;
-    no_cover = λ X Y Z x y z c. let k = c 0 (omega arith) in grind arith;
-  };
+  lawful = threshold_laws 1 0 0 (omega arith) (omega arith);
   start = start;
   end = r;
   opened = opened false;
@@ -251,11 +239,11 @@ single_run = let (r, p, h) = (stage false 0 (omega arith)).run start begins in r
 }
 
 -- only station 0 is own
-only_own : (P : ℕ → Type 0) → P 0 → (i : ℕ) → Own (single true) i → P i
+only_own : (P : ℕ → Type 0) → P 0 → (i : ℕ) → Own (one_station true) i → P i
 only_own P p i o = let e : i ≡ 0 = omega (arith, o.0) in rw e p
 
 -- after the last change no act applies
-rests : (s : Station) → At 22 s → Idle (single true) s
+rests : (s : Station) → At 22 s → Idle (one_station true) s
 rests s h a p = let t = timely true 22 s h a p in grind arith
 
 -- all stages
@@ -273,7 +261,7 @@ quiet_run = let (cs, xs, f) = stages true in let (r, p, h) = f.run start begins 
     omega arith,
     λ i b o. only_own (λ i. (r.station i).grading 1 ≡ some (some b, 2) → b ≡ 1) (h.station.grading b) i o,
   );
-  quiet = (λ m _ _. rw h.waiting, only_own (λ i. Idle (single true) (r.station i)) (rests (r.station 0) h.station));
+  quiet = (λ m _ _. rw h.waiting, only_own (λ i. Idle (one_station true) (r.station i)) (rests (r.station 0) h.station));
   finished = only_own (λ i. (r.station i).stage ≡ 4) h.station.stage;
   decided = h.station.decision;
   none_missing = h.missing;

@@ -1,8 +1,9 @@
 -- What is true of an own station in every run, and how it lasts while other stations go on.
-use Rattle.std.proofs.Common.{◌≡◌, ℕ, ◌+◌, ◌-◌, ◌*◌, ◌%◌, ◌<◌, ◌≤◌, Bool, true, Some as some, refl, ap, ◌∙◌, subst, inl, inr, arith}
+use Rattle.std.proofs.Common.{◌≡◌, ℕ, ◌+◌, ◌-◌, ◌*◌, ◌%◌, ◌<◌, ◌≤◌, Bool, true, false, Some as some, Option, refl, ap, ◌∙◌, subst, inl, inr, arith}
+use Rattle.std.specs.Option.{option_map_or}
 use Rattle.agreement.specs.Sets.{without}
 use Rattle.agreement.specs.Families.{Blocking, Quorum}
-use Rattle.agreement.specs.Station.{Setting, stages, Own, Station, fresh_station, Grading, bit, next_input, grading_made, proposers}
+use Rattle.agreement.specs.Station.{Setting, stages, Own, Station, fresh_station, Grading, bit, next_input, grading_made}
 use Rattle.agreement.specs.Rig.{Rig, Opened, Changes}
 
 -- an own station opens with its bit
@@ -17,34 +18,60 @@ World = ℕ → Station
 abbrev pub Origin : Setting → World → ℕ → ℕ → Type 0
 Origin g W σ v = (k : ℕ) × Own g k × (σ ≤ (W k).stage) × ((W k).input σ ≡ v)
 
--- what a station has of a stage that it closed
-pub record Closed (g : Setting) (s : Station) (σ : ℕ) : Type 0 where
-  pub set : ℕ → Bool
-  pub quorum : Quorum g.rule (proposers s σ set)
-  pub admitted : (v : ℕ) → set v ≡ true → s.admitted σ v ≡ true
-  pub next : s.input (σ + 1) ≡ next_input g σ set (s.input (σ - 1))
-  pub graded : s.grading σ ≡ grading_made σ set
+-- What is true of a station stands in parts, each over those of its fields that it speaks of, so that an act hands on the
+-- parts that it does not touch.
 
--- What it heard of own stations they did; what it prepared was an own input; what it admitted a quorum prepared; what it
--- proposed first it admitted; closed stages were opened; gradings and commitment come of closed stages; a decision rests on
--- a blocking set of committers.
+-- what it heard of own stations they did
+pub record Heard (g : Setting) (W : World) (who : ℕ → ℕ → ℕ → Bool) (what : ℕ → ℕ → Option ℕ) (bits : ℕ → ℕ → Bool)
+    : Type 0 where
+  pub heard_prepare : (σ v j : ℕ) → Own g j → who σ v j ≡ true → (W j).prepared σ v ≡ true
+  pub heard_propose : (σ v j : ℕ) → Own g j → what σ j ≡ some v → (W j).proposed σ ≡ some v
+  pub heard_commit : (b j : ℕ) → Own g j → bits b j ≡ true → (W j).committed ≡ some b
+
+-- what it admitted a quorum prepared, and what it proposed it admitted first
+pub record Admits (g : Setting) (who : ℕ → ℕ → ℕ → Bool) (holds : ℕ → ℕ → Bool) (says : ℕ → Option ℕ) : Type 0 where
+  pub admitted : (σ v : ℕ) → holds σ v ≡ true → (σ < stages g) × (v ≤ 2) × Quorum g.rule (who σ v)
+  pub first_admitted : (σ v : ℕ) → says σ ≡ some v → holds σ v ≡ true
+  pub first_proposed : (σ v : ℕ) → holds σ v ≡ true → (w : ℕ) × (says σ ≡ some w)
+
+-- inputs up to a stage are values, and bits in even stages
+abbrev pub Inputs : ℕ → (ℕ → ℕ) → Type 0
+Inputs now input = (σ : ℕ) → σ ≤ now → (input σ ≤ 2) × (σ % 2 ≡ 0 → input σ ≤ 1)
+
+-- its stage is no further than the end, and its inputs up to there are such
+pub record Course (g : Setting) (i : ℕ) (now : ℕ) (input : ℕ → ℕ) : Type 0 where
+  pub stage : now ≤ stages g
+  pub opened_with : input 0 ≡ bit (g.opens i)
+  pub inputs : Inputs now input
+
+-- what it has of a stage that it closed
+pub record Closed (g : Setting) (what : ℕ → ℕ → Option ℕ) (holds : ℕ → ℕ → Bool) (input : ℕ → ℕ)
+    (grading : ℕ → Option Grading) (σ : ℕ) : Type 0 where
+  pub set : ℕ → Bool
+  pub quorum : Quorum g.rule (λ j. option_map_or set (what σ j) false)
+  pub admitted : (v : ℕ) → set v ≡ true → holds σ v ≡ true
+  pub next : input (σ + 1) ≡ next_input g σ set (input (σ - 1))
+  pub graded : grading σ ≡ grading_made σ set
+
+-- gradings and commitment come of closed stages
+pub record Committed (now : ℕ) (grading : ℕ → Option Grading) (bit : Option ℕ) : Type 0 where
+  pub graded : (σ : ℕ) (x : Grading) → grading σ ≡ some x → σ < now
+  pub committed : (b : ℕ) → bit ≡ some b → (ρ : ℕ) × (4 * ρ + 3 < now) × (grading (4 * ρ + 3) ≡ some (some b, 2))
+  pub commits : (ρ b : ℕ) → grading (4 * ρ + 3) ≡ some (some b, 2) → (c : ℕ) × (bit ≡ some c)
+
+-- All this; and what it prepared was an own input, closed stages were opened, and a decision rests on a blocking set.
 pub record Good (g : Setting) (W : World) (i : ℕ) (s : Station) : Type 0 where
-  pub heard_prepare : (σ v j : ℕ) → Own g j → s.preparers σ v j ≡ true → (W j).prepared σ v ≡ true
-  pub heard_propose : (σ v j : ℕ) → Own g j → s.proposal σ j ≡ some v → (W j).proposed σ ≡ some v
-  pub heard_commit : (b j : ℕ) → Own g j → s.committers b j ≡ true → (W j).committed ≡ some b
+  pub heard : Heard g W s.preparers s.proposal s.committers
+  pub open heard use *
   pub prepared : (σ v : ℕ) → s.prepared σ v ≡ true → (σ ≤ s.stage) × (σ < stages g) × (v ≤ 2) × Origin g W σ v
-  pub admitted : (σ v : ℕ) → s.admitted σ v ≡ true → (σ < stages g) × (v ≤ 2) × Quorum g.rule (s.preparers σ v)
-  pub first_admitted : (σ v : ℕ) → s.proposed σ ≡ some v → s.admitted σ v ≡ true
-  pub first_proposed : (σ v : ℕ) → s.admitted σ v ≡ true → (w : ℕ) × (s.proposed σ ≡ some w)
-  pub stage : s.stage ≤ stages g
-  pub opened_with : s.input 0 ≡ bit (g.opens i)
-  pub inputs : (σ : ℕ) → σ ≤ s.stage → (s.input σ ≤ 2) × (σ % 2 ≡ 0 → s.input σ ≤ 1)
+  pub admits : Admits g s.preparers s.admitted s.proposed
+  pub open admits use *
+  pub course : Course g i s.stage s.input
+  pub open course use *
   pub opened : (σ : ℕ) → σ < s.stage → s.prepared σ (s.input σ) ≡ true
-  pub closed : (σ : ℕ) → σ < s.stage → Closed g s σ
-  pub graded : (σ : ℕ) (x : Grading) → s.grading σ ≡ some x → σ < s.stage
-  pub committed : (b : ℕ) → s.committed ≡ some b
-      → (ρ : ℕ) × (4 * ρ + 3 < s.stage) × (s.grading (4 * ρ + 3) ≡ some (some b, 2))
-  pub commits : (ρ b : ℕ) → s.grading (4 * ρ + 3) ≡ some (some b, 2) → (c : ℕ) × (s.committed ≡ some c)
+  pub closed : (σ : ℕ) → σ < s.stage → Closed g s.proposal s.admitted s.input s.grading σ
+  pub grades : Committed s.stage s.grading s.committed
+  pub open grades use *
   pub decided : (b : ℕ) → s.decision ≡ some b → Blocking g.rule (s.committers b)
 
 -- what others rely on only grows
@@ -81,21 +108,17 @@ origin_grows g W W' σ v w o = let e = w o.0 in (o.0, o.1, omega (arith, e.stage
 -- a station that does nothing keeps its facts
 pub good_grows : (g : Setting) (W W' : World) (i : ℕ) (s : Station) → Grow W W' → Good g W i s → Good g W' i s
 good_grows g W W' i s w d = record {
-  heard_prepare = λ σ v j o e. (w j).prepared σ v (d.heard_prepare σ v j o e);
-  heard_propose = λ σ v j o e. (w j).proposed σ v (d.heard_propose σ v j o e);
-  heard_commit = λ b j o e. (w j).committed b (d.heard_commit b j o e);
+  heard = record {
+    heard_prepare = λ σ v j o e. (w j).prepared σ v (d.heard_prepare σ v j o e);
+    heard_propose = λ σ v j o e. (w j).proposed σ v (d.heard_propose σ v j o e);
+    heard_commit = λ b j o e. (w j).committed b (d.heard_commit b j o e);
+  };
   prepared = λ σ v e. let p = d.prepared σ v e in (p.0, p.1, p.2, origin_grows g W W' σ v w p.3);
-  admitted = d.admitted;
-  first_admitted = d.first_admitted;
-  first_proposed = d.first_proposed;
-  stage = d.stage;
-  opened_with = d.opened_with;
-  inputs = d.inputs;
+  admits = d.admits;
+  course = d.course;
   opened = d.opened;
   closed = d.closed;
-  graded = d.graded;
-  committed = d.committed;
-  commits = d.commits;
+  grades = d.grades;
   decided = d.decided;
 }
 

@@ -88,30 +88,32 @@ module _ (m : Message) where
       let d = good_grows g W W' i s w d₀ in
       let t : (j : ℕ) → Own g j → m.sender ≡ j → Sent W' m = λ j o e. sent_grows W W' m w (t₀ (rw e o)) in
       record {
-        heard_prepare = λ σ v j o e. elim (or_cases (s.preparers σ v j) (prepares σ v j) e) [
-          | inl h ↦ d.heard_prepare σ v j o h
-          | inr h ↦ said_prepare W' σ v j (t j o) h
-        ];
-        heard_propose = λ σ v j o e. elim (option_or-cases (s.proposal σ j) (proposes σ j) v e) [
-          | inl h ↦ d.heard_propose σ v j o h
-          | inr h ↦ said_propose W' σ v j (t j o) h.1
-        ];
-        heard_commit = λ b j o e. elim (or_cases (s.committers b j) (commits b j) e) [
-          | inl h ↦ d.heard_commit b j o h
-          | inr h ↦ said_commit W' b j (t j o) h
-        ];
+        heard = record {
+          heard_prepare = λ σ v j o e. elim (or_cases (s.preparers σ v j) (prepares σ v j) e) [
+            | inl h ↦ d.heard_prepare σ v j o h
+            | inr h ↦ said_prepare W' σ v j (t j o) h
+          ];
+          heard_propose = λ σ v j o e. elim (option_or-cases (s.proposal σ j) (proposes σ j) v e) [
+            | inl h ↦ d.heard_propose σ v j o h
+            | inr h ↦ said_propose W' σ v j (t j o) h.1
+          ];
+          heard_commit = λ b j o e. elim (or_cases (s.committers b j) (commits b j) e) [
+            | inl h ↦ d.heard_commit b j o h
+            | inr h ↦ said_commit W' b j (t j o) h
+          ];
+        };
         prepared = d.prepared;
-        admitted = λ x y e. let k = d.admitted x y e in (
-          k.0,
-          k.1,
-          quorum_grows g laws (s.preparers x y) ((with_message m s).preparers x y)
-              (λ j h z. or_left (s.preparers x y j) (prepares x y j) z) k.2,
-        );
-        first_admitted = d.first_admitted;
-        first_proposed = d.first_proposed;
-        stage = d.stage;
-        opened_with = d.opened_with;
-        inputs = d.inputs;
+        admits = record {
+          admitted = λ x y e. let k = d.admitted x y e in (
+            k.0,
+            k.1,
+            quorum_grows g laws (s.preparers x y) ((with_message m s).preparers x y)
+                (λ j h z. or_left (s.preparers x y j) (prepares x y j) z) k.2,
+          );
+          first_admitted = d.first_admitted;
+          first_proposed = d.first_proposed;
+        };
+        course = d.course;
         opened = d.opened;
         closed = λ x h. let k = d.closed x h in record {
           set = k.set;
@@ -122,9 +124,7 @@ module _ (m : Message) where
           next = k.next;
           graded = k.graded;
         };
-        graded = d.graded;
-        committed = d.committed;
-        commits = d.commits;
+        grades = d.grades;
         decided = λ b e. blocking_grows g laws (s.committers b) ((with_message m s).committers b)
             (λ j h z. or_left (s.committers b j) (commits b j) z) (d.decided b e);
       }

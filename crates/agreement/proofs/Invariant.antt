@@ -28,21 +28,25 @@ pub record Inv (g : Setting) (r : Rig) : Type 0 where
 
 good_fresh : (g : Setting) (W : World) (i : ℕ) → Good g W i (fresh_station (g.opens i))
 good_fresh g W i = record {
-  heard_prepare = λ σ v j o e. cc;
-  heard_propose = λ σ v j o e. cc;
-  heard_commit = λ b j o e. cc;
+  heard = record {
+    heard_prepare = λ σ v j o e. cc;
+    heard_propose = λ σ v j o e. cc;
+    heard_commit = λ b j o e. cc;
+  };
   prepared = λ σ v e. cc;
-  admitted = λ σ v e. cc;
-  first_admitted = λ σ v e. cc;
-  first_proposed = λ σ v e. cc;
-  stage = omega arith;
-  opened_with = refl;
-  inputs = λ σ h. let k = open_le (g.opens i) σ in (omega arith, λ e. k);
+  admits = record {
+    admitted = λ σ v e. cc;
+    first_admitted = λ σ v e. cc;
+    first_proposed = λ σ v e. cc;
+  };
+  course = record {
+    stage = omega arith;
+    opened_with = refl;
+    inputs = λ σ h. let k = open_le (g.opens i) σ in (omega arith, λ e. k);
+  };
   opened = λ σ h. absurd (omega arith);
   closed = λ σ h. absurd (omega arith);
-  graded = λ σ x e. cc;
-  committed = λ b e. cc;
-  commits = λ ρ b e. cc;
+  grades = record { graded = λ σ x e. cc; committed = λ b e. cc; commits = λ ρ b e. cc };
   decided = λ b e. cc;
 }
 

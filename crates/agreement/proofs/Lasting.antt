@@ -1,4 +1,4 @@
--- What acts that are due and messages heard leave true of a station lasts through every run; two such facts.
+-- What acts that are due and messages heard leave true of a station lasts through every run; three such facts.
 use Rattle.std.proofs.Common.{◌≡◌, ℕ, ◌<◌, true, false, Some as some, None as none, sym, refl, ◌∙◌, inl, inr, arith, List}
 use Rattle.agreement.specs.declared.message.Message.{Message}
 use Rattle.agreement.specs.Station.{Setting, Station, Act, opening, joining, closing, deciding, Due, after_act, with_message}
@@ -61,7 +61,7 @@ opens_before_closing g calls answers o r h p i σ own =
     lasts g Opened (act_opened g) (λ m s e. e) i calls answers o r p
     (rw (opens_with g o h i own) (λ τ l. absurd (omega arith))) σ
 
--- nothing is prepared or admitted ahead
+-- nothing is done ahead
 abbrev Behind : Station → Type 0
 Behind s =
     (σ v : ℕ) → s.stage < σ
@@ -74,5 +74,5 @@ act_behind g a s d b τ w h = let k = b τ w h in let e = d.0 in grind arith
 
 pub nothing_ahead : NothingAhead
 nothing_ahead g calls answers o r h p i σ v own =
-    lasts g Behind (act_behind g) (λ m s e. e) i calls answers o r p (rw (opens_with g o h i own) (λ τ w l. (refl, refl, refl, refl)))
-    σ v
+    lasts g Behind (act_behind g) (λ m s e. e) i calls answers o r p
+    (rw (opens_with g o h i own) (λ τ w l. (refl, refl, refl, refl))) σ v

@@ -2,6 +2,7 @@ pub mod Tests
 pub mod Sets
 pub mod Numbers
 pub mod Quorums
+pub mod Thresholds
 pub mod Closing
 pub mod Own
 pub mod Facts

@@ -6,43 +6,29 @@ use Rattle.agreement.specs.Rig.{Rig, Call, Step, Broadcasts, Answer, acted, deli
 use Rattle.agreement.specs.Theorems.{MissingFits, MissingGrows}
 use Rattle.agreement.proofs.Runs.{kept}
 
--- the count fits into 32 bits
-abbrev Fits : Rig → Type 0
-Fits r = r.missing ≤ 4294967295
+-- the count is at least m, and fits
+record Counts (m : ℕ) (r : Rig) : Type 0 where
+  least : m ≤ r.missing
+  fits : r.missing ≤ 4294967295
 
-spoken_fits : (g : Setting) (i : ℕ) (o : Option Payload) (r r' : Rig) → Fits r → Broadcasts g i o r r' → Fits r'
-spoken_fits g i none r r' f b = omega (arith, b.2)
-spoken_fits g i (some p) r r' f b = omega (arith, b.2)
+spoken_counts : (g : Setting) (m i : ℕ) (o : Option Payload) (r r' : Rig) → Counts m r → Broadcasts g i o r r' → Counts m r'
+spoken_counts g m i none r r' f b = record { least = omega (arith, b.2); fits = omega (arith, b.2) }
+spoken_counts g m i (some p) r r' f b = record { least = omega (arith, b.2); fits = omega (arith, b.2) }
 
-step_fits : (g : Setting) (c : Call) (a : Answer) (r r' : Rig) → Fits r → Step g c a r r' → Fits r'
-step_fits g c (acted i a) r r' f s = spoken_fits g i (speech a (r.station i)) r r' f s.1.posts
-step_fits g c (delivered m b) r r' f s = omega (arith, s.2.counts.1)
-step_fits g c sent r r' f s = omega (arith, s.4.2)
-step_fits g c (lost m) r r' f s = omega (arith, s.2.2)
-step_fits g c (repeated m) r r' f s = omega (arith, s.2.2)
-step_fits g c (refused k) r r' f s = rw s.1 f
+step_counts : (g : Setting) (m : ℕ) (c : Call) (a : Answer) (r r' : Rig) → Counts m r → Step g c a r r' → Counts m r'
+step_counts g m c (acted i a) r r' f s = spoken_counts g m i (speech a (r.station i)) r r' f s.1.posts
+step_counts g m c (delivered x b) r r' f s =
+    let e = s.2.counts.1 in record { least = omega arith; fits = omega arith }
+step_counts g m c sent r r' f s = record { least = omega (arith, s.4.2); fits = omega (arith, s.4.2) }
+step_counts g m c (lost x) r r' f s = record { least = omega (arith, s.2.2); fits = omega (arith, s.2.2) }
+step_counts g m c (repeated x) r r' f s = record { least = omega (arith, s.2.2); fits = omega (arith, s.2.2) }
+step_counts g m c (refused k) r r' f s = rw s.1 f
 
 pub missing_fits : MissingFits
-missing_fits g calls answers o r h p = kept g Fits (step_fits g) calls answers o r p (omega (arith, h.missing))
-
--- a count that fits and is not below m
-abbrev Above : ℕ → Rig → Type 0
-Above m r = Fits r × (m ≤ r.missing)
-
-spoken_above : (g : Setting) (i m : ℕ) (o : Option Payload) (r r' : Rig) → Above m r → Broadcasts g i o r r' → m ≤ r'.missing
-spoken_above g i m none r r' f b = omega (arith, b.2, f)
-spoken_above g i m (some p) r r' f b = omega (arith, b.2, f)
-
-step_above : (g : Setting) (m : ℕ) (c : Call) (a : Answer) (r r' : Rig) → Above m r → Step g c a r r' → m ≤ r'.missing
-step_above g m c (acted i a) r r' f s = spoken_above g i m (speech a (r.station i)) r r' f s.1.posts
-step_above g m c (delivered x b) r r' f s = omega (arith, s.2.counts.1, f)
-step_above g m c sent r r' f s = omega (arith, s.4.2, f)
-step_above g m c (lost x) r r' f s = omega (arith, s.2.2, f)
-step_above g m c (repeated x) r r' f s = omega (arith, s.2.2, f)
-step_above g m c (refused k) r r' f s = rw s.1 f.1
+missing_fits g calls answers o r h p =
+    let start : Counts 0 o = record { least = omega arith; fits = omega (arith, h.missing) } in
+    (kept g (Counts 0) (step_counts g 0) calls answers o r p start).fits
 
 pub missing_grows : MissingGrows
 missing_grows g calls answers r r' p f =
-    let k = kept g (Above r.missing) (λ c a q q' u s. (step_fits g c a q q' u.0 s, step_above g r.missing c a q q' u s))
-    calls answers r r' p (f, omega arith) in
-    k.1
+    (kept g (Counts r.missing) (step_counts g r.missing) calls answers r r' p record { least = omega arith; fits = f }).least

@@ -45,6 +45,7 @@ old_stays m s e = λ i. record {
 }
 
 -- whether a delivery changes its addressee
-pub addressee_changes? : (g : Setting) (m : Message) (s : Station) → (addressee_after g m s ≡ s) ⊎ (addressee_after g m s ≡ s → ⊥)
+pub addressee_changes? : (g : Setting) (m : Message) (s : Station)
+    → (addressee_after g m s ≡ s) ⊎ (addressee_after g m s ≡ s → ⊥)
 addressee_changes? g m s = when_told (λ t. (t ≡ s) ⊎ (t ≡ s → ⊥)) g m s
     (elim (true_or_false (new m s)) [ inl e ↦ inr (new_changes m s e) | inr e ↦ inl (old_stays m s e) ]) (inl refl)

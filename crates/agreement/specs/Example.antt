@@ -1,21 +1,17 @@
 -- Runs of a rig of a single station that opens with 1: one through a stage, step by step, and one to the end.
 use Rattle.std.specs.Prelude.{◌≡◌, Bool, true, false, List, [], ◌∷◌, length, Some as some, None as none, ◌==◌, nat_le}
-use Rattle.agreement.specs.Sets.{tally}
-use Rattle.agreement.specs.Families.{Families, Laws}
+use Rattle.agreement.specs.Families.{Laws}
+use Rattle.agreement.specs.Thresholds.{threshold}
 use Rattle.agreement.specs.Messages.{message, prepare, propose}
 use Rattle.agreement.specs.Station.{Setting, opening, admitting, closing}
 use Rattle.agreement.specs.Rig.{Rig, Opened, Call, turn, deliver, Plays}
 use Rattle.agreement.specs.Rig.{Answer, acted, delivered, refused}
 use Rattle.agreement.specs.Law.{Narrow, OpenAlike, Unopposed, Quiet, Finished}
 
--- A fault rule of one station that tolerates only the empty set.
-abbrev pub nobody : Families
-nobody = record { n = 1; wide = λ X. nat_le (tally 1 X) 0; narrow = λ X. nat_le (tally 1 X) 0 }
-
--- One round with this bit as its coin, and a network that holds 4,096 messages.
-abbrev pub single : Bool → Setting
-single bit = record {
-  rule = nobody;
+-- A rule that tolerates no guest, one round with this bit as its coin, and a network that holds 4,096 messages.
+abbrev pub one_station : Bool → Setting
+one_station bit = record {
+  rule = threshold 1 0 0;
   rounds = 1;
   guest = λ _. false;
   opens = λ i. i == 0;
@@ -40,11 +36,11 @@ six_answers =
 
 -- Under a lawful rule these calls with these answers lead to stage 1, undecided, with nothing missing.
 pub record SingleRun : Type 0 where
-  pub lawful : Laws nobody
+  pub lawful : Laws (threshold 1 0 0)
   pub start : Rig
   pub end : Rig
-  pub opened : Opened (single false) start
-  pub plays : Plays (single false) six_calls six_answers start end
+  pub opened : Opened (one_station false) start
+  pub plays : Plays (one_station false) six_calls six_answers start end
   pub stage : (end.station 0).stage ≡ 1
   pub undecided : (end.station 0).decision ≡ none
   pub none_missing : end.missing ≡ 0
@@ -56,12 +52,12 @@ pub record QuietRun : Type 0 where
   pub answers : List Answer
   pub start : Rig
   pub end : Rig
-  pub opened : Opened (single true) start
-  pub plays : Plays (single true) calls answers start end
-  pub narrow : Narrow (single true)
-  pub alike : OpenAlike (single true) true
-  pub unopposed : Unopposed (single true) 0 end
-  pub quiet : Quiet (single true) end
+  pub opened : Opened (one_station true) start
+  pub plays : Plays (one_station true) calls answers start end
+  pub narrow : Narrow (one_station true)
+  pub alike : OpenAlike (one_station true) true
+  pub unopposed : Unopposed (one_station true) 0 end
+  pub quiet : Quiet (one_station true) end
   pub none_missing : end.missing ≡ 0
-  pub finished : Finished (single true) end
+  pub finished : Finished (one_station true) end
   pub decided : (end.station 0).decision ≡ some 1

@@ -2,20 +2,17 @@
 -- but 13.
 use Rattle.std.specs.Prelude.{◌≡◌, ℕ, Bool, true, false, not, List, [], ◌∷◌, ◌++◌, length, map, Some as some, ◌==◌, nat_le}
 use Rattle.agreement.specs.declared.message.Message.{Message}
-use Rattle.agreement.specs.Sets.{tally}
-use Rattle.agreement.specs.Families.{Families, Laws}
+use Rattle.agreement.specs.Families.{Laws}
+use Rattle.agreement.specs.Thresholds.{threshold}
 use Rattle.agreement.specs.Station.{Setting, fresh_station, opening}
 use Rattle.agreement.specs.Rig.{Rig, Opened, Call, turn, deliver, lose, send, repeat, Plays}
 use Rattle.agreement.specs.Rig.{Answer, acted, delivered, sent, lost, repeated, refused}
 
--- Of three stations any one may be a guest in the wide sense, and none in the narrow.
-abbrev pub one_of_three : Families
-one_of_three = record { n = 3; wide = λ X. nat_le (tally 3 X) 1; narrow = λ X. nat_le (tally 3 X) 0 }
-
--- Station 2 is the guest, all but station 1 open with 1, and the network holds three messages.
-abbrev pub three : Setting
-three = record {
-  rule = one_of_three;
+-- Any one of three stations may be a guest in the wide sense, none in the narrow. Station 2 is one; all but station 1 open
+-- with 1; and the network holds three messages.
+abbrev pub three_stations : Setting
+three_stations = record {
+  rule = threshold 3 1 0;
   rounds = 1;
   guest = λ i. i == 2;
   opens = λ i. not (i == 1);
@@ -32,8 +29,8 @@ abbrev pub to_itself : Message
 to_itself = from_to 2 2 1 0 0
 
 -- A message of the guest's is sent and delivered, and its addressee's record changes or not.
-abbrev pub tells : Message → Bool → List (Call × Answer)
-tells m change = (send m, sent) ∷ (deliver 0, delivered m change) ∷ []
+abbrev pub passage : Message → Bool → List (Call × Answer)
+passage m change = (send m, sent) ∷ (deliver 0, delivered m change) ∷ []
 
 -- Calls that are refused while nothing waits and nothing was delivered.
 abbrev pub refusals : List (Call × Answer)
@@ -51,22 +48,22 @@ refusals =
 -- The guest proposes 1; its second proposal changes nothing. Ignored are a stage past the last, a value above 2, a commit
 -- in stage 1, one of a value above 1, and a kind above 3. Its commit to the other own station is heard; a message to itself
 -- is not.
-abbrev pub told : List (Call × Answer)
-told =
-    tells (from_to 2 0 2 0 1) true
-    ++ tells (from_to 2 0 2 0 0) false
-    ++ tells (from_to 2 0 1 4 0) false
-    ++ tells (from_to 2 0 1 3 3) false
-    ++ tells (from_to 2 0 3 1 1) false
-    ++ tells (from_to 2 0 3 0 2) false
-    ++ tells (from_to 2 0 4 0 0) false
-    ++ tells (from_to 2 1 3 0 1) true
-    ++ tells to_itself false
+abbrev pub guest_messages : List (Call × Answer)
+guest_messages =
+    passage (from_to 2 0 2 0 1) true
+    ++ passage (from_to 2 0 2 0 0) false
+    ++ passage (from_to 2 0 1 4 0) false
+    ++ passage (from_to 2 0 1 3 3) false
+    ++ passage (from_to 2 0 3 1 1) false
+    ++ passage (from_to 2 0 3 0 2) false
+    ++ passage (from_to 2 0 4 0 0) false
+    ++ passage (from_to 2 1 3 0 1) true
+    ++ passage to_itself false
 
 -- What was delivered can be repeated after a copy was lost. While two wait, station 0 opens: the network holds one of its
 -- three messages and turns the others away, and then also a guest message and a repeat. Two are lost, one is delivered.
-abbrev pub crowded : List (Call × Answer)
-crowded =
+abbrev pub crowded_network : List (Call × Answer)
+crowded_network =
     (repeat, repeated to_itself)
     ∷ (lose 0, lost to_itself)
     ∷ (repeat, repeated to_itself)
@@ -82,12 +79,13 @@ crowded =
 -- These calls with these answers, and what they lead to. Missing are the messages from station 0 to own stations: one was
 -- turned away and one lost. The guest's own bit and messages left no trace at the guest.
 pub record GuestRun : Type 0 where
-  pub lawful : Laws one_of_three
+  pub lawful : Laws (threshold 3 1 0)
   pub start : Rig
   pub end : Rig
-  pub opened : Opened three start
+  pub opened : Opened three_stations start
   pub plays :
-      let script = refusals ++ told ++ crowded in Plays three (map (λ x. x.0) script) (map (λ x. x.1) script) start end
+      let script = refusals ++ guest_messages ++ crowded_network in
+      Plays three_stations (map (λ x. x.0) script) (map (λ x. x.1) script) start end
   pub waiting : end.waiting ≡ []
   pub last : end.last ≡ some to_itself
   pub posted : end.posted ≡ 3

@@ -1,6 +1,7 @@
 pub mod Sets
 pub mod Families
 pub mod Quorums
+pub mod Thresholds
 pub mod Messages
 pub mod Station
 pub mod Rig

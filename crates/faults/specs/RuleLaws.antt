@@ -1,31 +1,19 @@
 -- Proved: threshold and listed families keep the four laws, and so does what both of two rules tolerate.
-use Rattle.std.proofs.Common.{◌≡◌, ℕ, min, ◌+◌, ◌*◌, ◌<◌, ◌≤◌, Bool, true, false, ◌&&◌, nat_le, nat_lt, List, length, refl, arith, ltb-true, le-leb, leb-true}
-use Rattle.agreement.specs.Sets.{Set, below, outside, tally}
+use Rattle.std.proofs.Common.{◌≡◌, ℕ, min, ◌<◌, ◌≤◌, Bool, true, false, ◌&&◌, nat_lt, List, length, refl, arith, ltb-true}
+use Rattle.agreement.specs.Sets.{Set, below, outside}
 use Rattle.agreement.specs.Families.{Family, Families, DownwardClosed, Laws}
 use Rattle.agreement.proofs.Tests.{and_left, and_right, and_both}
 use Rattle.agreement.proofs.Quorums.{closed_ignores}
-use Rattle.agreement.proofs.Sets.{tally_part, tally_cover, tally_empty, part_inside}
+use Rattle.agreement.proofs.Sets.{part_inside}
+pub use Rattle.agreement.proofs.Thresholds.{threshold_laws}
 use Rattle.stations.specs.declared.StationSet.{StationSet}
 use Rattle.stations.specs.Members.{members}
-use Rattle.faults.specs.Rules.{threshold, listed, both_of}
+use Rattle.faults.specs.Rules.{listed, both_of}
 use Rattle.faults.specs.declared.rule.Sense.{Sense}
 use Rattle.faults.specs.declared.rule.Sense.TheVariants.{Wide, Narrow}
 use Rattle.faults.specs.Senses.{family}
 use Rattle.faults.specs.Lists.{at, Nested, Apart}
 use Rattle.faults.specs.WithinLemmas.{within_decides, within_parts, cover_larger}
-
-at_most_parts : (n m : ℕ) → DownwardClosed n (λ X. nat_le (tally n X) m)
-at_most_parts n m X Y p h = le-leb (tally n X) m (omega (arith, tally_part n X Y p, leb-true (tally n Y) m h))
-
-pub threshold_laws : (n s a : ℕ) → a ≤ s → a + 2 * s < n → Laws (threshold n s a)
-threshold_laws n s a nested apart = record {
-  wide_parts = at_most_parts n s;
-  narrow_parts = at_most_parts n a;
-  narrow_is_wide = λ X h. le-leb (tally n X) s (omega (arith, leb-true (tally n X) a h));
-  empty_is_narrow = le-leb (tally n (λ _. false)) a (omega (arith, tally_empty n));
-  no_cover = λ X Y Z x y z c.
-      omega (arith, tally_cover n X Y Z c, leb-true (tally n X) s x, leb-true (tally n Y) s y, leb-true (tally n Z) a z);
-}
 
 pub listed_laws : (n : ℕ) (W N : List StationSet) → 0 < length N → Nested n N W → Apart n N W → Laws (listed n W N)
 listed_laws n W N some nested apart = record {

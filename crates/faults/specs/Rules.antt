@@ -1,14 +1,11 @@
 -- What the fault rules tolerate.
-use Rattle.std.specs.Prelude.{ℕ, ◌&&◌, List, nat_le}
+use Rattle.std.specs.Prelude.{ℕ, ◌&&◌, List}
 use Rattle.std.specs.List.{list_any}
-use Rattle.agreement.specs.Sets.{tally, below, inside}
+use Rattle.agreement.specs.Sets.{below, inside}
 use Rattle.agreement.specs.Families.{Family, Families}
+pub use Rattle.agreement.specs.Thresholds.{threshold}
 use Rattle.stations.specs.declared.StationSet.{StationSet}
 use Rattle.stations.specs.Members.{members}
-
--- By threshold: wide is at most s members, narrow at most a.
-abbrev pub threshold : ℕ → ℕ → ℕ → Families
-threshold n s a = record { n = n; wide = λ X. nat_le (tally n X) s; narrow = λ X. nat_le (tally n X) a }
 
 -- X lies inside a listed set.
 abbrev pub within : ℕ → List StationSet → Family
