@@ -10,7 +10,8 @@ use Rattle.agreement.proofs.Own.{own_is}
 use Rattle.agreement.proofs.Facts.{World, Good, Ext, ext_refl, Grow, changed, grow_changes, good_grows, good_changes}
 use Rattle.agreement.proofs.Hear.{Sent, sent_grows, ext_with_message, good_with_message}
 use Rattle.agreement.proofs.Says.{Hears, hears_with_message, does_with_message, with_message-hears, never_ignored}
-use Rattle.agreement.proofs.Waiting.{message_to, waits_head, waits_tail, waits_cases, waits_same}
+use Rattle.agreement.proofs.Copies.{waits_head, waits_tail, waits_cases, waits_same}
+use Rattle.agreement.proofs.Waiting.{message_to}
 use Rattle.agreement.proofs.Invariant.{Inv}
 
 -- a fact on a station that was told a message

@@ -1,14 +1,15 @@
 -- Every call has an answer, and only the message that it takes off the network is open.
 use Rattle.std.proofs.Common.{◌≡◌, ℕ, ◌<◌, ◌≤◌, Bool, false, not, ◌⊎◌, List, [], ◌∷◌, map, Some as some, None as none, Option, sym, refl, ap, ◌∙◌, subst, inl, inr, arith}
 use Rattle.agreement.specs.declared.message.Message.{Message}
-use Rattle.agreement.specs.Messages.{copies, Same, Payload}
+use Rattle.agreement.specs.Messages.{copies, Same, Indifferent, Payload}
 use Rattle.agreement.specs.Station.{Setting, size, Own, Guest, Station, Act, after_act, speech, put}
 use Rattle.agreement.specs.Rig.{Rig, Call, turn, deliver, lose, send, repeat, Refused, Step, Plays}
 use Rattle.agreement.specs.Rig.{Answer, acted, delivered, sent, lost, repeated, refused}
 use Rattle.agreement.specs.Rig.{Changes, broadcast, Broadcasts, Acted, addressee_after, Delivered, Lost, Accepted}
-use Rattle.agreement.specs.Theorems.{CallsAreAnswered, Alike, taken_message, Indifferent, OnlyTakesAreOpen, RunsGoByTakes}
+use Rattle.agreement.specs.Theorems.{CallsAreAnswered, Alike, taken_message, OnlyTakesAreOpen, RunsGoByTakes}
 use Rattle.agreement.proofs.Tests.{true_or_false}
-use Rattle.agreement.proofs.Waiting.{not_empty, emptied, same_more, same_less, same_broadcast}
+use Rattle.agreement.proofs.Copies.{not_empty, emptied, same_more, same_less}
+use Rattle.agreement.proofs.Waiting.{same_broadcast}
 use Rattle.agreement.proofs.Records.{addressee_changes?}
 use Rattle.agreement.proofs.Due.{test, one_act_due, due_or_idle}
 
@@ -126,7 +127,7 @@ not_both g (send m) k a r r' p d = grind arith
 not_both g repeat k a r r' p d = grind arith
 
 -- alike rigs refuse alike
-refused_too : (g : Setting) → Indifferent g → (c : Call) (k : ℕ) (r q : Rig) → Alike g r q → Refused g c k r
+refused_too : (g : Setting) → Indifferent g.turns_away → (c : Call) (k : ℕ) (r q : Rig) → Alike g r q → Refused g c k r
     → Refused g c k q
 refused_too g n c k r q l p =
     let e = emptied r.waiting q.waiting l.waiting in
@@ -142,7 +143,7 @@ alike_sym : (g : Setting) (r q : Rig) → Alike g r q → Alike g q r
 alike_sym g r q l = let w : Same q.waiting r.waiting = λ x. sym (l.waiting x) in grind arith
 
 -- the same call on alike rigs, not refused
-module _ (g : Setting) (n : Indifferent g) (r r' q q' : Rig) (l : Alike g r q) where
+module _ (g : Setting) (n : Indifferent g.turns_away) (r r' q q' : Rig) (l : Alike g r q) where
   -- what is posted
   broadcast_alike : (i : ℕ) (o : Option Payload) → Broadcasts g i o r r' → Broadcasts g i o q q'
       → Same r'.waiting q'.waiting × (r'.posted ≡ q'.posted) × (r'.missing ≡ q'.missing)
@@ -195,7 +196,7 @@ only_takes_are_open g n c a b r r' q q' l s t h = elim (by_call g c a r r' s) [
 ]
 
 -- runs from alike rigs
-runs_alike : (g : Setting) → Indifferent g → (calls : List Call) (answers others : List Answer) (o r p q : Rig)
+runs_alike : (g : Setting) → Indifferent g.turns_away → (calls : List Call) (answers others : List Answer) (o r p q : Rig)
     → Alike g o p → Plays g calls answers o r → Plays g calls others p q
     → map taken_message answers ≡ map taken_message others
     → (answers ≡ others) × Alike g r q

@@ -11,7 +11,8 @@ use Rattle.agreement.proofs.Own.{own_is}
 use Rattle.agreement.proofs.Facts.{opens_with, World, Good, ext_refl, Grow, good_same}
 use Rattle.agreement.proofs.Hear.{Sent, sent_grows}
 use Rattle.agreement.proofs.Says.{Hears}
-use Rattle.agreement.proofs.Waiting.{message_from, message_to, Waits, nothing_waits, waits_tail, waits_cases, waits_same}
+use Rattle.agreement.proofs.Copies.{Waits, nothing_waits, waits_tail, waits_cases, waits_same}
+use Rattle.agreement.proofs.Waiting.{message_from, message_to}
 
 -- what own j has done, own i has heard, or the message that says so waits
 abbrev pub Reaches : Rig → ℕ → ℕ → Type 0

@@ -10,6 +10,7 @@ pub mod Acts
 pub mod Close
 pub mod Hear
 pub mod Says
+pub mod Copies
 pub mod Waiting
 pub mod Invariant
 pub mod Delivery

@@ -16,7 +16,8 @@ use Rattle.agreement.proofs.Acts.{ext_deciding, good_deciding}
 use Rattle.agreement.proofs.Close.{ext_closing, good_closing}
 use Rattle.agreement.proofs.Hear.{Sent, sent_grows}
 use Rattle.agreement.proofs.Says.{Hears, hears_after, speaks, says_true, sent_does}
-use Rattle.agreement.proofs.Waiting.{Waits, waits_same, broadcast_keeps, broadcast_new, broadcast_all}
+use Rattle.agreement.proofs.Copies.{Waits, waits_same}
+use Rattle.agreement.proofs.Waiting.{broadcast_keeps, broadcast_new, broadcast_all}
 use Rattle.agreement.proofs.Invariant.{Inv}
 
 pub ext_after : (g : Setting) (a : Act) (s : Station) → Applies g s a → Ext s (after_act g a s)

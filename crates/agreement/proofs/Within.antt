@@ -5,8 +5,8 @@ use Rattle.agreement.specs.Messages.{Same}
 use Rattle.agreement.specs.Station.{Setting, size, speech}
 use Rattle.agreement.specs.Rig.{Rig, Opened, Call, Step, Answer, acted, delivered, sent, lost, repeated, refused}
 use Rattle.agreement.specs.Theorems.{MessagesStayWithin}
-use Rattle.agreement.proofs.Waiting.{message_from, message_to, Waits, nothing_waits, waits_head, waits_tail}
-use Rattle.agreement.proofs.Waiting.{waits_cases, waits_same}
+use Rattle.agreement.proofs.Copies.{Waits, nothing_waits, waits_head, waits_tail, waits_cases, waits_same}
+use Rattle.agreement.proofs.Waiting.{message_from, message_to}
 use Rattle.agreement.proofs.Turns.{spoken_new}
 use Rattle.agreement.proofs.Runs.{kept}
 

@@ -2,7 +2,7 @@
 use Rattle.std.specs.Prelude.{◌≡◌, ◌≢◌, ℕ, ◌+◌, ◌*◌, ◌^◌, ◌<◌, ◌≤◌, Bool, true, false, if◌then◌else◌, ◌⊎◌, ◌↔◌, List, map, Some as some, None as none, Option, ◌==◌}
 use Rattle.std.specs.Option.{option_or}
 use Rattle.agreement.specs.declared.message.Message.{Message}
-use Rattle.agreement.specs.Messages.{copies, Same, Payload, prepare, propose, commit}
+use Rattle.agreement.specs.Messages.{copies, Same, Indifferent, Payload, prepare, propose, commit}
 use Rattle.agreement.specs.Families.{Blocking, Quorum}
 use Rattle.agreement.specs.Station.{Setting, size, stages, Own, Station, fresh_station, proposers, Idle, Applies, Before, Due, after_act, speech}
 use Rattle.agreement.specs.Station.{Act, opening, joining, admitting, closing, deciding}
@@ -164,20 +164,16 @@ taken_message (delivered m change) = some m
 taken_message (lost m) = some m
 taken_message other = none
 
--- The network goes by what waits and not by its order.
-abbrev pub Indifferent : Setting → Type 0
-Indifferent g = (v w : List Message) (m : Message) → Same v w → g.turns_away v m ≡ g.turns_away w m
-
 -- Only the message that a call takes off is open: alike rigs and the same message give the same answer and alike rigs.
 abbrev pub OnlyTakesAreOpen : Type 0
 OnlyTakesAreOpen =
-    (g : Setting) → Indifferent g → (c : Call) (a b : Answer) (r r' q q' : Rig) → Alike g r q
+    (g : Setting) → Indifferent g.turns_away → (c : Call) (a b : Answer) (r r' q q' : Rig) → Alike g r q
     → Step g c a r r' → Step g c b q q'
     → ((m n : Message) → taken_message a ≡ some m → taken_message b ≡ some n → m ≡ n) → (a ≡ b) × Alike g r' q'
 
 -- So runs of the same calls in which the same messages were taken off have the same answers and end in alike rigs.
 abbrev pub RunsGoByTakes : Type 0
 RunsGoByTakes =
-    (g : Setting) → Indifferent g → (calls : List Call) (answers others : List Answer) (o r p q : Rig)
+    (g : Setting) → Indifferent g.turns_away → (calls : List Call) (answers others : List Answer) (o r p q : Rig)
     → Opened g o → Opened g p → Plays g calls answers o r → Plays g calls others p q
     → map taken_message answers ≡ map taken_message others → (answers ≡ others) × Alike g r q
