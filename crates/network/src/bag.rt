@@ -1,8 +1,8 @@
 //! Messages in places.
 
-ghost use Rattle.std.specs.Prelude.{◌≡◌, [], ◌∷◌, ◌++◌, IfSome, IfNone, is_err, IfOk, OnOk, OnErr};
+ghost use Rattle.std.specs.Prelude.{◌≡◌, [], ◌∷◌, ◌++◌, IfSome, IfNone, OnSome, is_err, IfOk, OnOk, OnErr};
 ghost use Rattle.agreement.specs.Messages.{Same};
-ghost use Rattle.network.specs.Bags.{bag_capacity, bag_pick, bag_taken};
+ghost use Rattle.network.specs.Bags.{bag_capacity, bag_pick, bag_posted, bag_taken};
 
 use crate::{Network, TurnedAway};
 use agreement::Message;
@@ -51,6 +51,12 @@ impl Network for Bag {
 
     ghost picks = { bag_pick };
 
+    ghost cleared = { λ b. [] };
+
+    ghost posted = { bag_posted };
+
+    ghost taken = { bag_taken };
+
     ghost roomy = { λ b. bag_roomy };
 
     fn clear(&mut self) {
@@ -62,7 +68,7 @@ impl Network for Bag {
         ensures variant { is_err result ≡ bag_capacity.turns_away self.old message }
         ensures ok { OnOk result (Same self.new (message ∷ self.old)) }
         ensures err { OnErr result (self.new ≡ self.old) }
-        ensures place { OnOk result (self.new ≡ self.old ++ message ∷ []) }
+        ensures state { OnOk result (self.new ≡ bag_posted self.old message) }
     {
         if self.messages.len() >= Bag::HOLDS {
             return Err(TurnedAway);
@@ -76,7 +82,7 @@ impl Network for Bag {
         ensures choice { result ≡ bag_pick self.old hint }
         ensures some { IfSome result (λ m. Same self.old (m ∷ self.new)) }
         ensures none { IfNone result ((self.old ≡ []) × (self.new ≡ self.old)) }
-        ensures place { IfSome result (λ m. self.new ≡ bag_taken self.old hint m) }
+        ensures state { OnSome result (self.new ≡ bag_taken self.old hint) }
     {
         let count = self.messages.len();
         if count == 0 {

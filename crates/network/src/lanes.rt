@@ -84,11 +84,17 @@ impl Network for Lanes {
 
     ghost picks = { lanes_pick };
 
+    ghost cleared = { λ l. replicate 10 [] };
+
+    ghost posted = { lanes_posted };
+
+    ghost taken = { lanes_taken };
+
     ghost roomy = { λ l. lanes_roomy };
 
     fn clear(&mut self)
         ensures empty { all_lanes self.new ≡ [] }
-        ensures place { self.new ≡ replicate 10 [] }
+        ensures state { self.new ≡ replicate 10 [] }
     {
         for lane in self.lanes.iter_mut() {
             lane.clear();
@@ -101,7 +107,7 @@ impl Network for Lanes {
         ensures variant { is_err result ≡ lanes_capacity.turns_away (all_lanes self.old) message }
         ensures ok { OnOk result (Same (all_lanes self.new) (message ∷ all_lanes self.old)) }
         ensures err { OnErr result (self.new ≡ self.old) }
-        ensures place { OnOk result (self.new ≡ lanes_posted self.old message) }
+        ensures state { OnOk result (self.new ≡ lanes_posted self.old message) }
     {
         self.lanes[lane_of(message)].put(message)
     }
@@ -111,7 +117,7 @@ impl Network for Lanes {
         ensures choice { result ≡ lanes_pick self.old hint }
         ensures some { IfSome result (λ m. Same (all_lanes self.old) (m ∷ all_lanes self.new)) }
         ensures none { IfNone result ((all_lanes self.old ≡ []) × (self.new ≡ self.old)) }
-        ensures place { OnSome result (self.new ≡ lanes_taken self.old hint) }
+        ensures state { OnSome result (self.new ≡ lanes_taken self.old hint) }
     {
         let lane = first_filled(&self.lanes, hint as usize % Lanes::COUNT)?;
         self.lanes[lane].take_oldest()

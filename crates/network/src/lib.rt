@@ -2,7 +2,7 @@
 
 #![tactic(auto)]
 
-ghost use Rattle.std.specs.Prelude.{◌≡◌, ℕ, ◌≤◌, false, ◌<◌, min, List, [], ◌∷◌, length, Option, Some, IfSome, IfNone, is_err, IfOk, IsOk, OnOk, OnErr, codes};
+ghost use Rattle.std.specs.Prelude.{◌≡◌, ℕ, ◌≤◌, false, ◌<◌, min, List, [], ◌∷◌, length, Option, Some, IfSome, IfNone, OnSome, is_err, IfOk, IsOk, OnOk, OnErr, codes};
 ghost use Rattle.agreement.specs.declared.message.Message.{Message as Sent};
 ghost use Rattle.agreement.specs.Messages.{Same, Indifferent};
 ghost use Rattle.network.specs.Capacities.{Capacity, Roomy};
@@ -41,15 +41,25 @@ pub trait Network {
     // Which message a take answers by a hint, if one waits: the one thing that is left to each network.
     ghost picks: { Self → ℕ → Option Sent };
 
+    // The network as a call leaves it: cleared, with a message posted, and after a take by a hint. Which message is taken,
+    // and in what order the others lie, is each network's own; from the same state it is the same.
+    ghost cleared: { Self → Self };
+
+    ghost posted: { Self → Sent → Self };
+
+    ghost taken: { Self → ℕ → Self };
+
     /// Lets go of all that waits.
     fn clear(&mut self)
         ensures empty { waiting self.new ≡ [] }
+        ensures state { self.new ≡ cleared self.old }
         ensures capacity { capacity self.new ≡ capacity self.old };
 
     /// Has a message wait once more, or turns it away, and then nothing changes.
     fn post(&mut self, message: Message) -> Result<(), TurnedAway>
         ensures variant { is_err result ≡ (capacity self.old).turns_away (waiting self.old) message }
         ensures ok { OnOk result (Same (waiting self.new) (message ∷ waiting self.old)) }
+        ensures state { OnOk result (self.new ≡ posted self.old message) }
         ensures err { OnErr result (self.new ≡ self.old) }
         ensures capacity { capacity self.new ≡ capacity self.old };
 
@@ -58,6 +68,7 @@ pub trait Network {
     fn take(&mut self, hint: u8) -> Option<Message>
         ensures choice { result ≡ picks self.old hint }
         ensures some { IfSome result (λ m. Same (waiting self.old) (m ∷ waiting self.new)) }
+        ensures state { OnSome result (self.new ≡ taken self.old hint) }
         ensures none { IfNone result ((waiting self.old ≡ []) × (self.new ≡ self.old)) }
         ensures capacity { capacity self.new ≡ capacity self.old };
 
@@ -90,8 +101,8 @@ pub fn exchange<N: Network>(
         ≡ (N.capacity network.old).turns_away (N.waiting network.old) message }
     ensures ok { IfOk result
         (λ m. Same (message ∷ N.waiting network.old) (m ∷ N.waiting network.new)) }
-    ensures choice { IfOk result
-        (λ m. (w : N) × Same (N.waiting w) (message ∷ N.waiting network.old) × (N.picks w hint ≡ Some m)) }
+    ensures choice { IfOk result (λ m. N.picks (N.posted network.old message) hint ≡ Some m) }
+    ensures state { OnOk result (network.new ≡ N.taken (N.posted network.old message) hint) }
     ensures err { OnErr result (network.new ≡ network.old) }
     ensures below_floor { length (N.waiting network.old) < (N.capacity network.old).floor
         → IsOk result }

@@ -156,3 +156,9 @@ fn a_message_is_exchanged_for_another(rt: HostRuntime) {
     assert_eq!(rt; exchange(&mut lanes, new, 9), Err(TurnedAway));
     assert_eq!(rt; lanes.count(), 40);
 }
+
+#[test]
+fn being_turned_away_has_words(rt: HostRuntime) {
+    let text = format!(in rt.alloc(); "{TurnedAway}").expect(&rt, "there is memory");
+    assert_eq!(rt; text.as_str(), "the network turned the message away");
+}
