@@ -2,7 +2,8 @@
 
 #![tactic(auto)]
 
-ghost use Rattle.std.specs.Prelude.{◌≡◌, ℕ, ◌≤◌, false, ◌<◌, min, List, [], ◌∷◌, length, Option, Some, IfSome, IfNone, OnSome, is_err, IfOk, IsOk, OnOk, OnErr, codes};
+ghost use Rattle.std.specs.Prelude.{◌≡◌, ℕ, ◌<◌, ◌≤◌, min, false, List, [], ◌∷◌, length, codes};
+ghost use Rattle.std.specs.Prelude.{Option, Some, IfSome, IfNone, OnSome, is_err, IfOk, IsOk, OnOk, OnErr};
 ghost use Rattle.agreement.specs.declared.message.Message.{Message as Sent};
 ghost use Rattle.agreement.specs.Messages.{Same, Indifferent};
 ghost use Rattle.network.specs.Capacities.{Capacity, Roomy};
@@ -38,11 +39,11 @@ pub trait Network {
     // The floor, and which messages are turned away.
     ghost capacity: { Self → Capacity };
 
-    // Which message a take answers by a hint, if one waits: the one thing that is left to each network.
+    // Which message a take answers by a hint, if one waits: the network's own choice, and the one result left open here.
     ghost picks: { Self → ℕ → Option Sent };
 
-    // The network as a call leaves it: cleared, with a message posted, and after a take by a hint. Which message is taken,
-    // and in what order the others lie, is each network's own; from the same state it is the same.
+    // The network as a call leaves it: cleared, with a message posted, and after a take by a hint. The order is each
+    // network's own, and from the same state the same.
     ghost cleared: { Self → Self };
 
     ghost posted: { Self → Sent → Self };
