@@ -2,7 +2,7 @@
 
 #![tactic(auto)]
 
-ghost use Rattle.std.specs.Prelude.{◌≡◌, ◌-◌, ◌^◌, ◌<◌, min, ◌++◌, if◌then◌else◌, Some, codes, nat_le, nat_lt};
+ghost use Rattle.std.specs.Prelude.{◌≡◌, ◌-◌, ◌^◌, ◌<◌, min, ◌++◌, if◌then◌else◌, false, Some, codes, nat_le, nat_lt};
 ghost use Rattle.agreement.specs.Sets.{up_to, both, below, outside, without, either, only, inside, every, covers, tally};
 ghost use Rattle.stations.specs.Members.{members};
 ghost use Rattle.stations.specs.Text.{listed};
@@ -44,6 +44,9 @@ impl From<u16> for StationSet {
 }
 
 impl StationSet {
+    /// The set with no station.
+    pub const EMPTY: StationSet = StationSet { bits: 0 };
+
     /// Whether a station is in the set; none from 16 on is.
     pub fn has(self, station: u8) -> bool
         ensures { result ≡ below 16 (members self) station }
@@ -60,6 +63,19 @@ impl StationSet {
         } else {
             self
         }
+    }
+
+    /// Puts a station into the set, and answers whether it is new there; a station from 16 on is not put in.
+    pub fn insert(&mut self, station: u8) -> bool
+        ensures members { members self.new ≡ (if nat_lt station 16 then either (members self.old) (only station) else members self.old) }
+        ensures is_new { result ≡ below 16 (outside (members self.old)) station }
+        ensures unchanged { result ≡ false → self.new ≡ self.old }
+    {
+        if station >= 16 || self.has(station) {
+            return false;
+        }
+        *self = self.with(station);
+        true
     }
 
     /// The stations of the set below n.
