@@ -1,0 +1,4 @@
+pub mod Values
+pub mod Gradings
+pub mod Payloads
+pub mod Acts
