@@ -1,0 +1,7 @@
+pub mod Duties
+pub mod Backing
+pub mod Readings
+pub mod Fresh
+pub mod News
+pub mod Searches
+pub mod Rest

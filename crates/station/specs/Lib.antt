@@ -1,0 +1,4 @@
+pub mod Stages
+pub mod Duties
+pub mod Stations
+pub mod Turns
