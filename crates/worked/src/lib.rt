@@ -4,7 +4,7 @@
 
 ghost use Rattle.worked.specs.Cases.{AllCome, table};
 
-/// Every case of the table comes to what stands beside it.
+/// Every case of the table comes to what it says.
 pub fn worked_cases()
     ensures { AllCome table }
 {}
