@@ -21,7 +21,8 @@ all_one part a b e (suc n) (suc i) = all_one part a b e n i
 abbrev table : StageRecord → Value → List StageRecord
 table t v = record t { input = v } ∷ replicate 32 t
 
-in_table : {B : Type 0} (part : StageRecord → B) (b : B) (v : Value) → part (record new_stage { input = v }) ≡ b → part new_stage ≡ b
+in_table : {B : Type 0} (part : StageRecord → B) (b : B) (v : Value) → part (record new_stage { input = v }) ≡ b
+    → part new_stage ≡ b
     → (σ : ℕ) → part (get_or (table new_stage v) σ new_stage) ≡ b
 in_table part b v e f zero = e
 in_table part b v e f (suc σ) = all_one part new_stage b f 32 σ
@@ -32,7 +33,8 @@ value_in_table part v σ w =
     let e = all_one part empty_value (part empty_value) refl 3 w in
     in_table (λ t. part (value_of t w)) (part empty_value) v e e σ
 
-proposal_in_table : (v : Value) (σ j : ℕ) → option_map number (proposal_of (get_or (table new_stage v) σ new_stage) j) ≡ none
+proposal_in_table : (v : Value) (σ j : ℕ)
+    → option_map number (proposal_of (get_or (table new_stage v) σ new_stage) j) ≡ none
 proposal_in_table v σ j =
     let e = all_one (option_map number) none none refl 10 j in in_table (λ t. option_map number (proposal_of t j)) none v e e σ
 
@@ -40,7 +42,8 @@ bit_input : (b : Bool) → number (value_of_bit b) ≡ bit b
 bit_input true = refl
 bit_input false = refl
 
-first_input : (b : Bool) (σ : ℕ) → number (get_or (table new_stage (value_of_bit b)) σ new_stage).input ≡ cond (eqb σ 0) (bit b) 0
+first_input : (b : Bool) (σ : ℕ)
+    → number (get_or (table new_stage (value_of_bit b)) σ new_stage).input ≡ cond (eqb σ 0) (bit b) 0
 first_input b zero = bit_input b
 first_input b (suc σ) =
     let e : eqb (suc σ) 0 ≡ false = grind arith in rw e (all_one (λ t. number t.input) new_stage 0 refl 32 σ)

@@ -19,7 +19,8 @@ use Rattle.station.specs.Turns.{with_next_stage}
 use Rattle.station.specs.Stations.{stage_of, read_by, read}
 
 -- places of a list after one was written
-pub written : {A : Type 0} (xs : List A) (i : ℕ) (a d : A) → i < length xs → (λ x. get_or (set xs i a) x d) ≡ put (λ x. get_or xs x d) i a
+pub written : {A : Type 0} (xs : List A) (i : ℕ) (a d : A) → i < length xs
+    → (λ x. get_or (set xs i a) x d) ≡ put (λ x. get_or xs x d) i a
 written xs i a d h j x = at x j
   where
     at : (x : ℕ) → get_or (set xs i a) x d ≡ put (λ y. get_or xs y d) i a x
@@ -29,7 +30,8 @@ written xs i a d h j x = at x j
     ]
 
 -- what a part of the records is, if it is the same in the record that was written
-pub kept : {A B : Type 0} (part : A → B) (f : ℕ → A) (i : ℕ) (a : A) → part a ≡ part (f i) → (x : ℕ) → part (put f i a x) ≡ part (f x)
+pub kept : {A B : Type 0} (part : A → B) (f : ℕ → A) (i : ℕ) (a : A) → part a ≡ part (f i) → (x : ℕ)
+    → part (put f i a x) ≡ part (f x)
 kept part f i a e x = elim (same? x i) [
   | inl k ↦ rw (k, eqb_same i) e
   | inr k ↦ rw k refl
@@ -70,7 +72,8 @@ marked part f σ v a e x y = elim (same? x σ) [
 ]
 
 -- a set that in a has j besides
-joined : {A : Type 0} (part : A → Set) (f : ℕ → ℕ → A) (σ v j : ℕ) (a : A) → part a ≡ either (part (f σ v)) (only j) → (x y k : ℕ)
+joined : {A : Type 0} (part : A → Set) (f : ℕ → ℕ → A) (σ v j : ℕ) (a : A) → part a ≡ either (part (f σ v)) (only j)
+    → (x y k : ℕ)
     → part (put_pair f σ v a x y) k ≡ (part (f x y) k || (eqb σ x && (eqb v y && eqb j k)))
 joined part f σ v j a e x y k = elim (same? x σ) [
   | inl m ↦ elim (same? y v) [
@@ -128,7 +131,8 @@ read_written s σ u w k =
     ap (λ f. read_by f s) (ap (λ x. λ y. get_or (set s.stages σ x) y new_stage) k.same ∙ written s.stages σ u new_stage k.within)
 
 -- where a value's record became r, and what was proposed p
-value_written : (s : Station) (f : ℕ → StageRecord) (σ v : ℕ) (r : ValueRecord) (p : Option Value) (u : StageRecord) → v < length (f σ).values
+value_written : (s : Station) (f : ℕ → StageRecord) (σ v : ℕ) (r : ValueRecord) (p : Option Value) (u : StageRecord)
+    → v < length (f σ).values
     → u ≡ record (f σ) { values = set (f σ).values v r; proposed = p }
     → let V : ℕ → ℕ → ValueRecord = put_pair (λ x. value_of (f x)) σ v r in
     read_by (put f σ u) s ≡ record (read_by f s) {
@@ -154,7 +158,8 @@ value_written s f σ v r p u within e = λ i. record (read_by f s) {
     ]
 
 -- a station that has heard that j prepared v in stage σ
-pub heard_prepare : (s : Station) (σ v j : ℕ) (d u w : StageRecord) → Written s σ u w → AddsPreparer j v (get_or s.stages σ d) u
+pub heard_prepare : (s : Station) (σ v j : ℕ) (d u w : StageRecord) → Written s σ u w
+    → AddsPreparer j v (get_or s.stages σ d) u
     → read (record s { stages = set s.stages σ w }) ≡ with_message (message j 0 (prepare σ v)) (read s)
 heard_prepare s σ v j d u w k a =
     let at = at_default s σ d u w k in
@@ -166,7 +171,12 @@ heard_prepare s σ v j d u w k a =
     let admitted = kept_pair (λ q. q.admitted) V σ v r refl in
     let proposed = kept (λ t. t) (λ x. option_map number (f x).proposed) σ (option_map number (f σ).proposed) refl in
     read_written s σ u w k ∙ value_written s f σ v r (f σ).proposed u (rw at at a.within) (rw at at a.others)
-    ∙ (λ i. record (read s) { preparers = λ x y k. joins x y k i; prepared = λ x y. prepared x y i; admitted = λ x y. admitted x y i; proposed = λ x. proposed x i })
+    ∙ (λ i. record (read s) {
+      preparers = λ x y k. joins x y k i;
+      prepared = λ x y. prepared x y i;
+      admitted = λ x y. admitted x y i;
+      proposed = λ x. proposed x i;
+    })
     ∙ sym (hears_prepare (read s) j σ v)
 
 -- where proposals, input and grading of a stage's record were written
@@ -179,16 +189,20 @@ parts_written : (s : Station) (f : ℕ → StageRecord) (σ : ℕ) (q : List (Op
     }
 parts_written s f σ q n x u e = λ i. record (read_by f s) {
   preparers = λ y v k. kept (λ t. holds (value_of t v).preparers k) f σ u (ap (λ t. holds (value_of t v).preparers k) e) y i;
-  proposal = λ y j. moved {B = ℕ → Option ℕ} (λ t k. option_map number (proposal_of t k)) f σ u (λ k. option_map number (get_or q k none)) (ap {B = ℕ → Option ℕ} (λ t k. option_map number (proposal_of t k)) e) y i j;
+  proposal = λ y j. moved proposals f σ u (λ k. option_map number (get_or q k none)) (ap proposals e) y i j;
   input = λ y. moved (λ t. number t.input) f σ u (number n) (ap (λ t. number t.input) e) y i;
   prepared = λ y v. kept (λ t. (value_of t v).prepared) f σ u (ap (λ t. (value_of t v).prepared) e) y i;
   admitted = λ y v. kept (λ t. (value_of t v).admitted) f σ u (ap (λ t. (value_of t v).admitted) e) y i;
   proposed = λ y. kept (λ t. option_map number t.proposed) f σ u (ap (λ t. option_map number t.proposed) e) y i;
   grading = λ y. moved (λ t. option_map in_numbers t.grading) f σ u (option_map in_numbers x) (ap (λ t. option_map in_numbers t.grading) e) y i;
 }
+  where
+    proposals : StageRecord → ℕ → Option ℕ
+    proposals t k = option_map number (proposal_of t k)
 
 -- parts that were written as they were
-same_proposals : (f : ℕ → StageRecord) (σ y : ℕ) → let P = λ (x j : ℕ). option_map number (proposal_of (f x) j) in put P σ (P σ) y ≡ P y
+same_proposals : (f : ℕ → StageRecord) (σ y : ℕ)
+    → let P = λ (x j : ℕ). option_map number (proposal_of (f x) j) in put P σ (P σ) y ≡ P y
 same_proposals f σ y = kept (λ t. t) (λ x j. option_map number (proposal_of (f x) j)) σ _ refl y
 
 same_input : (f : ℕ → StageRecord) (σ y : ℕ) → put (λ x. number (f x).input) σ (number (f σ).input) y ≡ number (f y).input
@@ -264,7 +278,8 @@ heard_commit s b c j d x w written same within e =
     ∙ (λ i. record (read s) { committers = λ y k. table y k i }) ∙ sym (hears_commit (read s) j b)
     ∙ ap (λ n. with_message (message j 0 (commit n)) (read s)) same
   where
-    table : (y k : ℕ) → holds (get_or (set s.committers b x) y 0) k ≡ (holds (get_or s.committers y 0) k || (eqb b y && eqb j k))
+    table : (y k : ℕ)
+        → holds (get_or (set s.committers b x) y 0) k ≡ (holds (get_or s.committers y 0) k || (eqb b y && eqb j k))
     table y k = elim (same? y b) [
       | inl m ↦
           let a : get_or s.committers b d ≡ get_or s.committers b 0 = get_or_default s.committers b d 0 within in
@@ -275,7 +290,8 @@ heard_commit s b c j d x w written same within e =
     ]
 
 -- whether it is new that j committed bit c
-pub commit_is_new : (s : Station) (b c j d : ℕ) (r : Bool) → r ≡ below 16 (outside (holds (get_or s.committers b d))) j → j < 16 → b ≡ c
+pub commit_is_new : (s : Station) (b c j d : ℕ) (r : Bool) → r ≡ below 16 (outside (holds (get_or s.committers b d))) j
+    → j < 16 → b ≡ c
     → b < length s.committers → r ≡ not ((read s).committers c j)
 commit_is_new s b c j d r e h same within =
     let k : r ≡ not (holds (get_or s.committers b d) j) = rw (lt-ltb j 16 h) at e in
@@ -295,7 +311,12 @@ prepared_in s σ v d u w k within e =
     let admitted = kept_pair (λ q. q.admitted) V σ v r refl in
     let proposed = kept (λ t. t) (λ x. option_map number (f x).proposed) σ (option_map number (f σ).proposed) refl in
     read_written s σ u w k ∙ value_written s f σ v r (f σ).proposed u (rw at at within) (rw at at e)
-    ∙ (λ i. record (read s) { preparers = λ x y. preparers x y i; prepared = λ x y. prepared x y i; admitted = λ x y. admitted x y i; proposed = λ x. proposed x i })
+    ∙ (λ i. record (read s) {
+      preparers = λ x y. preparers x y i;
+      prepared = λ x y. prepared x y i;
+      admitted = λ x y. admitted x y i;
+      proposed = λ x. proposed x i;
+    })
 
 -- a station that has admitted v in stage σ
 pub admitted_in : (g : Setting) (s : Station) (σ : ℕ) (v : Value) (d u w : StageRecord) → Written s σ u w
@@ -317,7 +338,8 @@ admitted_in g s σ v d u w k within e =
       proposed = put (read s).proposed σ (first (f σ).proposed i);
     })
   where
-    first : (o : Option Value) → option_map number (option_or o (some v)) ≡ option_or (option_map number o) (some (number v))
+    first : (o : Option Value)
+        → option_map number (option_or o (some v)) ≡ option_or (option_map number o) (some (number v))
     first none = refl
     first (some w) = refl
 
@@ -352,7 +374,8 @@ input_in s σ v d h =
     })
 
 -- a station that has left its stage with grading x, and come into the next with input v
-pub advanced_with : (s : Station) (x : Option (Option Bool × Grade)) (v : Value) (d e : StageRecord) → s.current + 1 < length s.stages
+pub advanced_with : (s : Station) (x : Option (Option Bool × Grade)) (v : Value) (d e : StageRecord)
+    → s.current + 1 < length s.stages
     → let σ = s.current in
     let u : StageRecord = record (get_or s.stages σ d) { grading = x } in
     let w : StageRecord = record (get_or (set s.stages σ u) (σ + 1) e) { input = v } in

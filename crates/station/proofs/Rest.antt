@@ -25,7 +25,8 @@ empty_is_no_quorum f l q =
     cc (e.0, holds_empty w.0)
 
 -- a settled value is neither to be prepared nor to be admitted
-settled_value : (f : Families) → Laws f → (r : ValueRecord) → is_settled r ≡ true → (to_join f r ≡ false) × (to_admit f r ≡ false)
+settled_value : (f : Families) → Laws f → (r : ValueRecord) → is_settled r ≡ true
+    → (to_join f r ≡ false) × (to_admit f r ≡ false)
 settled_value f l r h = elim (or_cases (eqb r.preparers 0) (r.prepared && r.admitted) h) [
   | inl e ↦
       let n : r.preparers ≡ 0 = eqb-true r.preparers 0 e in
@@ -36,7 +37,8 @@ settled_value f l r h = elim (or_cases (eqb r.preparers 0) (r.prepared && r.admi
 ]
 
 -- in a stage in which all values are settled rules 2 and 3 do not apply
-pub nothing_to_serve : (f : Families) → Laws f → (t : StageRecord) → ((v : ℕ) → is_settled (value_of t v) ≡ true) → (σ : ℕ)
+pub nothing_to_serve : (f : Families) → Laws f → (t : StageRecord) → ((v : ℕ) → is_settled (value_of t v) ≡ true)
+    → (σ : ℕ)
     → FirstServed f t σ none
 nothing_to_serve f l t h σ = (λ v k. (settled_value f l (value_of t v) (h v)).0, λ v k. (settled_value f l (value_of t v) (h v)).1)
 

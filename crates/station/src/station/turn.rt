@@ -90,6 +90,7 @@ impl Station {
                 return self.commit(bit);
             }
             (3, ValueSet::BitAndBlank(bit)) => self.advance(Some(grading), bit.into()),
+            // Quarter 3, with any other set.
             (_, _) => {
                 let held = self.stages[self.current as usize - 1].input;
                 self.advance(Some(grading), held);
