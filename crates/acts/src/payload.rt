@@ -18,7 +18,7 @@ pub enum Payload {
 }
 
 impl Payload {
-    /// The kinds of messages, as numbers.
+    // The kinds of messages.
     const PREPARE: u8 = 1;
 
     const PROPOSE: u8 = 2;

@@ -4,4 +4,4 @@ pub mod Readings
 pub mod Fresh
 pub mod News
 pub mod Searches
-pub mod Rest
+pub mod Settled

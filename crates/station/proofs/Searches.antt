@@ -1,10 +1,10 @@
--- What the searches in a stage's record say of the station's acts.
-use Rattle.std.proofs.Common.{◌≡◌, ℕ, ◌*◌, ◌<◌, ◌↔◌, Bool, true, false, cond, not, ltb, Option, Some as some, None as none, is_some, option_map, sym, refl, ap, ◌∙◌, arith, lt-ltb}
+-- What the searches in a station's records say of its acts.
+use Rattle.std.proofs.Common.{◌≡◌, ℕ, ◌*◌, ◌<◌, ◌↔◌, Bool, true, false, cond, not, ltb, Option, Some as some, None as none, is_some, is_none, option_map, get_or, sym, refl, ap, ◌∙◌, arith, lt-ltb}
 use Rattle.std.specs.Option.{option_map_or}
-use Rattle.agreement.specs.Sets.{Set, outside}
+use Rattle.agreement.specs.Sets.{Set, holds, outside}
 use Rattle.agreement.specs.Families.{Families, Laws}
-use Rattle.agreement.specs.Station.{Setting, Applies, opening, joining, admitting, proposers}
-use Rattle.agreement.proofs.Tests.{same_truth}
+use Rattle.agreement.specs.Station.{Setting, bit, Applies, opening, joining, admitting, deciding, proposers}
+use Rattle.agreement.proofs.Tests.{same_truth, and_split}
 use Rattle.acts.specs.declared.act.Act.{Act}
 use Rattle.acts.specs.declared.act.Act.TheVariants.{Open, Join, Admit, Close, Decide}
 use Rattle.acts.specs.declared.value.Value.{Value}
@@ -14,7 +14,7 @@ use Rattle.station.specs.declared.stage.StageRecord.{StageRecord}
 use Rattle.station.specs.declared.station.Station.{Station}
 use Rattle.station.specs.Stages.{value_of, proposal_of, if_admitted, opening_act, to_join, to_admit, FirstValue, FirstServed, backers, AreBacked, Closes}
 use Rattle.station.specs.Stations.{stage_of, read}
-use Rattle.station.specs.Turns.{setting, FirstInStage}
+use Rattle.station.specs.Turns.{setting, decides, FirstBit, FirstInStage}
 use Rattle.station.proofs.Duties.{FirstValued, first_closing, none_of}
 
 -- a proposal is an admitted value, in the model's words
@@ -71,6 +71,31 @@ is_proposal_set s σ n x h v = (
         → option_map number (if_admitted t o) ≡ some v
     join none a e = e
     join (some u) a e = let k : number u ≡ v = cc in let b : (value_of t (number u)).admitted ≡ true = rw k a in rw b e
+
+undecided : (d : Option Bool) → (option_map bit d ≡ none) ↔ (is_none d ≡ true)
+undecided none = (λ e. refl, λ e. refl)
+undecided (some b) = (λ e. cc, λ e. cc)
+
+-- whether a bit is decided
+decides_one : (f : Families) (s : Station) (rounds b : ℕ)
+    → (decides f s b ≡ false → Applies (setting f rounds (λ _. false)) (read s) (deciding b) → ⊥)
+    × (b < 2 → decides f s b ≡ true → Applies (setting f rounds (λ _. false)) (read s) (deciding b))
+decides_one f s rounds b =
+    let u = undecided s.decision in (
+      λ e y. let n = u.0 y.1 in let w = y.2 in grind arith,
+      λ h e.
+          let k = and_split (is_none s.decision) (not (f.wide (holds (get_or s.committers b 0)))) e in
+          (omega (arith, h), u.1 k.0, grind (arith, k.1)),
+    )
+
+-- the first bit found is the first that is to be decided
+pub first_decided : (f : Families) (s : Station) (rounds : ℕ) (o : Option Bool) → FirstBit (decides f s) o
+    → FirstValued (setting f rounds (λ _. false)) (read s) deciding (option_map bit o)
+first_decided f s rounds none h = λ b y. (decides_one f s rounds b).0 (h b (omega (arith, y.0))) y
+first_decided f s rounds (some b) h = (
+  (decides_one f s rounds (bit b)).1 (grind arith) h.0,
+  λ c k y. (decides_one f s rounds c).0 (h.1 c k) y,
+)
 
 module _ (f : Families) (l : Laws f) (s : Station) (σ rounds : ℕ) (t : StageRecord) (at : t ≡ stage_of s σ) where
   abbrev G : Setting

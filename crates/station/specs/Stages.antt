@@ -75,10 +75,14 @@ to_admit f r = not r.admitted && f.wide (outside (members r.preparers))
 abbrev pub is_settled : ValueRecord → Bool
 is_settled r = (r.preparers == 0) || (r.prepared && r.admitted)
 
+-- The first number below n that passes a test, or none where none passes.
+abbrev pub First : ℕ → (ℕ → Bool) → Option ℕ → Type 0
+First n P None = (k : ℕ) → k < n → P k ≡ false
+First n P (Some m) = (P m ≡ true) × ((k : ℕ) → k < m → P k ≡ false)
+
 -- The first value that passes a test, or none where no value passes.
 abbrev pub FirstValue : (ℕ → Bool) → Option Value → Type 0
-FirstValue P None = (v : ℕ) → v < 3 → P v ≡ false
-FirstValue P (Some w) = (P (number w) ≡ true) × ((v : ℕ) → v < number w → P v ≡ false)
+FirstValue P r = First 3 P (option_map number r)
 
 -- The first act in the stage with this record by rules 2 and 3, or none where none applies.
 abbrev pub FirstServed : Families → StageRecord → ℕ → Option Act → Type 0

@@ -1,5 +1,5 @@
 -- What a turn of a station of the program does.
-use Rattle.std.specs.Prelude.{◌≡◌, ℕ, ◌<◌, Bool, true, false, not, ◌&&◌, slice_index_or, Some, None, Option, is_none, option_map, ◌+◌, ◌*◌}
+use Rattle.std.specs.Prelude.{◌≡◌, ℕ, ◌<◌, Bool, false, not, ◌&&◌, slice_index_or, Some, None, Option, is_none, option_map, ◌+◌, ◌*◌}
 use Rattle.std.specs.Option.{option_or}
 use Rattle.agreement.specs.Families.{Families}
 use Rattle.agreement.specs.Station.{bit, put, Setting, Idle, Due, after_act, speech}
@@ -11,6 +11,7 @@ use Rattle.acts.specs.declared.act.Act.TheVariants.{Open, Join, Admit, Close, De
 use Rattle.acts.specs.Payloads.{payload_of}
 use Rattle.acts.specs.Acts.{act_of}
 use Rattle.station.specs.Duties.{NoneOf, FirstOf}
+use Rattle.station.specs.Stages.{First}
 use Rattle.station.specs.declared.station.Station.{Station}
 
 -- What a station goes by: the fault rule, the number of rounds and the coin. Who is a guest, what stations open with, and
@@ -31,8 +32,7 @@ decides f s b = is_none s.decision && not (f.wide (members (slice_index_or s.com
 
 -- The first bit that passes a test, or none where no bit passes.
 abbrev pub FirstBit : (ℕ → Bool) → Option Bool → Type 0
-FirstBit P None = (b : ℕ) → b < 2 → P b ≡ false
-FirstBit P (Some b) = (P (bit b) ≡ true) × ((c : ℕ) → c < bit b → P c ≡ false)
+FirstBit P r = First 2 P (option_map bit r)
 
 -- The first act of a stage that applies, or none where none applies.
 abbrev pub FirstInStage : Setting → model.Station → ℕ → Option Act → Type 0
@@ -57,7 +57,7 @@ CanDo (Close σ x) s = (σ ≡ s.current) × (σ < 32)
 CanDo (Decide b) s = Unit {0}
 
 -- A station that does what is due in a turn: the act, and what is said.
-pub record Does (g : Setting) (s s' : model.Station) (t : Turn) : Type 0 where
+pub record DoesDueAct (g : Setting) (s s' : model.Station) (t : Turn) : Type 0 where
   pub due : Due g s (act_of t.act)
   pub state : s' ≡ after_act g (act_of t.act) s
   pub says : option_map payload_of t.says ≡ speech (act_of t.act) s

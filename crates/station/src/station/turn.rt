@@ -8,7 +8,7 @@ ghost use Rattle.acts.specs.Payloads.{payload_of};
 ghost use Rattle.acts.specs.Acts.{act_of};
 ghost use Rattle.acts.specs.declared.payload.Payload.TheVariants.{Commit};
 ghost use Rattle.station.specs.Stations.{read};
-ghost use Rattle.station.specs.Turns.{setting, Does, HasDone, CanDo, with_next_stage, with_committed};
+ghost use Rattle.station.specs.Turns.{setting, DoesDueAct, HasDone, CanDo, with_next_stage, with_committed};
 
 use super::Station;
 use acts::act::{Act, Turn};
@@ -26,7 +26,7 @@ impl Station {
         coin: &C,
         rounds: Rounds,
     ) -> Option<Turn>
-        ensures due { IfSome result (Does (setting (F.families rule.now) rounds.count (C.bits coin.now)) (read self.old) (read self.new)) }
+        ensures due { IfSome result (DoesDueAct (setting (F.families rule.now) rounds.count (C.bits coin.now)) (read self.old) (read self.new)) }
         ensures idle { IfNone result (Idle (setting (F.families rule.now) rounds.count (C.bits coin.now)) (read self.old)) }
         ensures unchanged { IfNone result (self.new ≡ self.old) }
     {

@@ -1,4 +1,4 @@
-use Rattle.station.proofs.Rest.{nothing_to_serve}
+use Rattle.station.proofs.Settled.{nothing_to_serve}
 use Rattle.station.proofs.stage.StageRecord.serving.Goals as goal
 
 pub returns-then-is_settled : goal.returns-then-is_settled

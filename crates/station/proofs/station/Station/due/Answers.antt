@@ -2,7 +2,7 @@ use Rattle.std.proofs.Common.{◌≡◌, rules, false, None as none}
 use Rattle.station.specs.Stations.{read}
 use Rattle.station.specs.Turns.{setting}
 use Rattle.station.proofs.Duties.{due_first, none_due, none_beyond}
-use Rattle.station.proofs.Rest.{first_decided}
+use Rattle.station.proofs.Searches.{first_decided}
 use Rattle.station.proofs.station.Station.due.Goals as goal
 
 pub returns-in-Some : goal.returns-in-Some

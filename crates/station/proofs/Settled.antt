@@ -1,18 +1,13 @@
--- Stages that need no look, and deciding.
-use Rattle.std.proofs.Common.{◌≡◌, ℕ, ◌<◌, Bool, true, false, not, ◌&&◌, eqb, eqb-true, Option, Some as some, None as none, is_none, option_map, get_or, ◌↔◌, refl, inl, inr, arith}
+-- Stages in which all values are settled.
+use Rattle.std.proofs.Common.{◌≡◌, ℕ, true, false, not, ◌&&◌, eqb, eqb-true, None as none, inl, inr, arith}
 use Rattle.agreement.specs.Sets.{holds, outside}
 use Rattle.agreement.specs.Families.{Families, Laws}
-use Rattle.agreement.specs.Station.{bit, deciding, Applies}
 use Rattle.agreement.proofs.Tests.{or_cases, and_split, not_true}
 use Rattle.agreement.proofs.Numbers.{holds_empty}
 use Rattle.agreement.proofs.Quorums.{quorum_reaches_out}
 use Rattle.station.specs.declared.stage.ValueRecord.{ValueRecord}
 use Rattle.station.specs.declared.stage.StageRecord.{StageRecord}
-use Rattle.station.specs.declared.station.Station.{Station}
 use Rattle.station.specs.Stages.{value_of, is_settled, to_join, to_admit, FirstServed}
-use Rattle.station.specs.Stations.{read}
-use Rattle.station.proofs.Duties.{FirstValued}
-use Rattle.station.specs.Turns.{setting, decides, FirstBit}
 
 -- no station is tolerated widely, and is no quorum
 empty_is_wide : (f : Families) → Laws f → f.wide (holds 0) ≡ true
@@ -41,28 +36,3 @@ pub nothing_to_serve : (f : Families) → Laws f → (t : StageRecord) → ((v :
     → (σ : ℕ)
     → FirstServed f t σ none
 nothing_to_serve f l t h σ = (λ v k. (settled_value f l (value_of t v) (h v)).0, λ v k. (settled_value f l (value_of t v) (h v)).1)
-
-undecided : (d : Option Bool) → (option_map bit d ≡ none) ↔ (is_none d ≡ true)
-undecided none = (λ e. refl, λ e. refl)
-undecided (some b) = (λ e. cc, λ e. cc)
-
--- whether a bit is decided
-decides_one : (f : Families) (s : Station) (rounds b : ℕ)
-    → (decides f s b ≡ false → Applies (setting f rounds (λ _. false)) (read s) (deciding b) → ⊥)
-    × (b < 2 → decides f s b ≡ true → Applies (setting f rounds (λ _. false)) (read s) (deciding b))
-decides_one f s rounds b =
-    let u = undecided s.decision in (
-      λ e y. let n = u.0 y.1 in let w = y.2 in grind arith,
-      λ h e.
-          let k = and_split (is_none s.decision) (not (f.wide (holds (get_or s.committers b 0)))) e in
-          (omega (arith, h), u.1 k.0, grind (arith, k.1)),
-    )
-
--- the first bit found is the first that is to be decided
-pub first_decided : (f : Families) (s : Station) (rounds : ℕ) (o : Option Bool) → FirstBit (decides f s) o
-    → FirstValued (setting f rounds (λ _. false)) (read s) deciding (option_map bit o)
-first_decided f s rounds none h = λ b y. (decides_one f s rounds b).0 (h b (omega (arith, y.0))) y
-first_decided f s rounds (some b) h = (
-  (decides_one f s rounds (bit b)).1 (grind arith) h.0,
-  λ c k y. (decides_one f s rounds c).0 (h.1 c k) y,
-)
