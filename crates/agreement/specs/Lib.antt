@@ -5,6 +5,7 @@ pub mod Thresholds
 pub mod Messages
 pub mod Station
 pub mod Rig
+pub mod Said
 pub mod Law
 pub mod Theorems
 pub mod Example
