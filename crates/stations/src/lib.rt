@@ -65,6 +65,17 @@ impl StationSet {
         }
     }
 
+    /// The set with one station fewer; a station from 16 on is not in it.
+    pub fn without(self, station: u8) -> StationSet
+        ensures { members result ≡ (if nat_lt station 16 then without (members self) (only station) else members self) }
+    {
+        if station < 16 {
+            self.difference(StationSet::single(station))
+        } else {
+            self
+        }
+    }
+
     /// Puts a station into the set, and answers whether it is new there; a station from 16 on is not put in.
     pub fn insert(&mut self, station: u8) -> bool
         ensures members { members self.new ≡ (if nat_lt station 16 then either (members self.old) (only station) else members self.old) }
@@ -157,7 +168,8 @@ impl StationSet {
         }
     }
 
-    fn difference(self, other: StationSet) -> StationSet
+    /// The stations of this set that are not in the other.
+    pub fn difference(self, other: StationSet) -> StationSet
         ensures stations { members result ≡ without (members self) (members other) }
         ensures by_both { members result ≡ both (members self) (outside (members other)) }
     {

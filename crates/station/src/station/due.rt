@@ -1,8 +1,7 @@
 //! Which act is due.
 
-ghost use Rattle.std.specs.Prelude.{◌≡◌, ℕ, ◌*◌, ◌<◌, ◌≤◌, min, ◌+◌, true, false, ◌≢◌};
-ghost use Rattle.station.specs.Stages.{is_settled, value_of};
-ghost use Rattle.station.specs.Stations.{stage_of, read};
+ghost use Rattle.std.specs.Prelude.{◌≡◌, ◌*◌, ◌<◌, ◌≤◌, min, ◌+◌, false};
+ghost use Rattle.station.specs.Stations.{read};
 ghost use Rattle.station.specs.Turns.{setting, FirstBit, decides, FirstIn, DueOrIdle};
 
 use super::Station;
