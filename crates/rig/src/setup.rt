@@ -1,0 +1,105 @@
+//! What is entered before a rig is opened.
+
+ghost use Rattle.std.specs.Prelude.{◌≡◌, IfOk, OnOk, OnErr, ◌&&◌, not};
+ghost use Rattle.std.specs.Result.{result_err};
+ghost use Rattle.agreement.specs.Sets.{either, only, without};
+ghost use Rattle.stations.specs.Members.{members};
+ghost use Rattle.agreement.specs.Station.{is_own};
+ghost use Rattle.rig.specs.Settings.{setting_by, between_own};
+ghost use Rattle.rig.specs.Setups.{new_fault, guest_fault, opening_fault, with_opening};
+
+use crate::fault::SetupFault;
+use acts::rounds::Rounds;
+use agreement::Message;
+use faults::rule::FaultRule;
+use stations::StationSet;
+
+/// What is entered for a rig before it is opened: how many rounds it has, who is a guest, and who opens with 1. A station
+/// that is not named is own, and opens with 0. What is entered for a station that the rig turns out not to have is of no
+/// effect, and neither is a guest's bit.
+#[derive(Drop, PartialEq, Eq, Debug)]
+pub struct Setup {
+    pub(crate) rounds: Rounds,
+    pub(crate) guests: StationSet,
+    pub(crate) openings: StationSet,
+}
+
+impl Setup {
+    /// How many stations a rig has at most.
+    pub const STATIONS: usize = 10;
+
+    /// A setup for so many rounds, in which no station is named.
+    pub fn new(rounds: u8) -> Result<Setup, SetupFault>
+        ensures fault { result_err result ≡ new_fault rounds }
+        ensures rounds { IfOk result (λ s. s.rounds.count ≡ rounds) }
+        ensures guests { IfOk result (λ s. s.guests ≡ 0) }
+        ensures openings { IfOk result (λ s. s.openings ≡ 0) }
+    {
+        let rounds = Rounds::new(rounds).ok_or(SetupFault::Rounds)?;
+        Ok(Setup {
+            rounds,
+            guests: StationSet::EMPTY,
+            openings: StationSet::EMPTY,
+        })
+    }
+
+    /// Enters a station as a guest.
+    pub fn enter_guest(&mut self, station: u8) -> Result<(), SetupFault>
+        ensures fault { result_err result ≡ guest_fault station }
+        ensures guests { OnOk result (members self.new.guests ≡ either (members self.old.guests) (only station)) }
+        ensures others { (self.new.rounds ≡ self.old.rounds) × (self.new.openings ≡ self.old.openings) }
+        ensures refused { OnErr result (self.new ≡ self.old) }
+    {
+        Setup::check_station(station)?;
+        self.guests = self.guests.with(station);
+        Ok(())
+    }
+
+    /// Enters the bit with which a station opens, in place of any entered before.
+    pub fn enter_opening(&mut self, station: u8, bit: u8) -> Result<(), SetupFault>
+        ensures fault { result_err result ≡ opening_fault station bit }
+        ensures openings { OnOk result (members self.new.openings ≡ with_opening station bit (members self.old.openings)) }
+        ensures others { (self.new.rounds ≡ self.old.rounds) × (self.new.guests ≡ self.old.guests) }
+        ensures refused { OnErr result (self.new ≡ self.old) }
+    {
+        Setup::check_station(station)?;
+        self.openings = match bit {
+            0 => self.openings.without(station),
+            1 => self.openings.with(station),
+            _ => return Err(SetupFault::Bit),
+        };
+        Ok(())
+    }
+
+    // Refuses a station that no rig has.
+    fn check_station(station: u8) -> Result<(), SetupFault>
+        ensures { result_err result ≡ guest_fault station }
+    {
+        if (station as usize) < Setup::STATIONS {
+            Ok(())
+        } else {
+            Err(SetupFault::Station)
+        }
+    }
+
+    /// Whether a station is an own station of a rig of this rule.
+    pub(crate) fn is_own<F: FaultRule>(&self, rule: &F, station: u8) -> bool
+        ensures { result ≡ is_own (setting_by (F.families rule.now) self.now) station }
+    {
+        station < rule.size() && !self.guests.has(station)
+    }
+
+    /// Whether a message goes from an own station to an own one.
+    pub(crate) fn is_between_own<F: FaultRule>(&self, rule: &F, message: Message) -> bool
+        ensures { result ≡ between_own (setting_by (F.families rule.now) self.now) message }
+    {
+        self.is_own(rule, message.sender) && self.is_own(rule, message.addressee)
+    }
+
+    /// The own stations that open with 1.
+    pub(crate) fn openings(&self) -> StationSet
+        ensures { members result ≡ without (members self.now.openings) (members self.now.guests) }
+    {
+        self.openings.difference(self.guests)
+    }
+}
