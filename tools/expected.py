@@ -83,4 +83,5 @@ def main():
     print("later rounds of seed 1:", [(round, seed_bit(1, round)) for round in [8, 9, 10, 11, 255]])
 
 
-main()
+if __name__ == "__main__":
+    main()

@@ -1,0 +1,28 @@
+//! A cue in which nothing is called.
+
+ghost use Rattle.std.specs.Prelude.{◌≡◌};
+ghost use Rattle.rig.specs.Settings.{setting_by, opened_station};
+ghost use Rattle.rig.specs.Outcomes.{TellsAll};
+
+use coins::Coin;
+use faults::rule::FaultRule;
+use network::Network;
+use rig::{Outcome, Setup};
+
+/// Opens a rig and closes it: setup and rig each lie in a place, out of which they are taken to be used up.
+pub fn idle_cue<F: FaultRule + Drop, N: Network + Drop, C: Coin + Drop>(
+    setup: Setup,
+    rule: F,
+    network: N,
+    coin: C,
+) -> (N, Outcome)
+    ensures network { result.0 ≡ N.cleared network }
+    ensures stations { TellsAll (setting_by (F.families rule) setup) (opened_station (setting_by (F.families rule) setup)) result.1.stations }
+    ensures posted { result.1.posted ≡ 0 }
+    ensures missing { result.1.missing ≡ 0 }
+{
+    let mut setup = Some(setup);
+    let opened = setup.take().unwrap().open(rule, network, coin);
+    let mut rig = Some(opened);
+    rig.take().unwrap().close()
+}
