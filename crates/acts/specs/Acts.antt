@@ -17,9 +17,9 @@ act_of (Decide b) = deciding (bit b)
 
 -- An act in numbers: its rule, its stage or 0, and its value. For a proposal set that is 1 for 0, 2 for 1 and 4 for blank,
 -- added.
-abbrev pub numbers : Act → ℕ × ℕ × ℕ
-numbers (Open σ v) = (1, σ, number v)
-numbers (Join σ v) = (2, σ, number v)
-numbers (Admit σ v) = (3, σ, number v)
-numbers (Close σ x) = (4, σ, set_number 3 (values x))
-numbers (Decide b) = (5, 0, bit b)
+abbrev pub numbers : model.Act → ℕ × ℕ × ℕ
+numbers (opening σ v) = (1, σ, v)
+numbers (joining σ v) = (2, σ, v)
+numbers (admitting σ v) = (3, σ, v)
+numbers (closing σ X) = (4, σ, set_number 3 X)
+numbers (deciding b) = (5, 0, b)

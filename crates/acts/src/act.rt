@@ -1,7 +1,7 @@
 //! What stations do in their turns.
 
 ghost use Rattle.std.specs.Prelude.{◌≡◌};
-ghost use Rattle.acts.specs.Acts.{numbers};
+ghost use Rattle.acts.specs.Acts.{act_of, numbers};
 
 use crate::payload::Payload;
 use crate::value::{Value, ValueSet};
@@ -24,7 +24,7 @@ pub enum Act {
 impl Act {
     /// The act in numbers: its rule, 1 to 5; its stage, 0 for rule 5; and its value, or the number of its proposal set.
     pub fn numbers(self) -> (u8, u8, u8)
-        ensures { result ≡ numbers self }
+        ensures { result ≡ numbers (act_of self) }
     {
         match self {
             Act::Open { stage, value } => (1, stage, value as u8),
