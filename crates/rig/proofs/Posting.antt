@@ -23,7 +23,7 @@ between_to : (g : Setting) (i k : ℕ) (p : Payload) → is_own g i ≡ true
 between_to g i k p h = rw (message_from i k p, message_to i k p, h) refl
 
 module _ {F N C : Type 0} {f : FaultRule F} {n : Network N} {c : Coin C} where
-  kept_on : (o r r' : Rig F N C f n c) → Kept o r → Kept r r' → Kept o r'
+  pub kept_on : (o r r' : Rig F N C f n c) → Kept o r → Kept r r' → Kept o r'
   kept_on o r r' a b = record {
     rule = b.rule ∙ a.rule;
     coin = b.coin ∙ a.coin;
@@ -32,7 +32,7 @@ module _ {F N C : Type 0} {f : FaultRule F} {n : Network N} {c : Coin C} where
   }
 
   -- what a rig was opened with stays
-  same_setting : (o r : Rig F N C f n c) → Kept o r → setting r ≡ setting o
+  pub same_setting : (o r : Rig F N C f n c) → Kept o r → setting r ≡ setting o
   same_setting o r s = λ j. record {
     rule = f.families (s.rule j);
     rounds = (s.setup j).rounds.count;
