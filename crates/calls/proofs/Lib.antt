@@ -1,0 +1,2 @@
+pub mod Encodings
+pub mod OneWay
