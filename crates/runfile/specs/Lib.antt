@@ -1,0 +1,9 @@
+pub mod Format
+pub mod Faults
+pub mod Coins
+pub mod Stations
+pub mod Bodies
+pub mod Rules
+pub mod Parts
+pub mod Files
+pub mod Theorems
