@@ -1,0 +1,4 @@
+pub mod Begun
+pub mod Decimals
+pub mod Spaced
+pub mod Lengths

@@ -1,0 +1,4 @@
+use Rattle.transcript.proofs.field.+put_number.Given as goal
+
+abbrev pub decreases-put_number : goal.decreases-put_number
+decreases-put_number l = l.number

@@ -1,0 +1,6 @@
+pub mod Text
+pub mod Lines
+pub mod Faults
+pub mod Fields
+pub mod Putting
+pub mod Playing
