@@ -1,0 +1,37 @@
+-- What is printed of a run file.
+use Rattle.std.specs.Prelude.{◌≡◌, ℕ, List, [], map, replicate, ◌⊎◌}
+use Rattle.agreement.specs.Station.{Setting}
+use Rattle.agreement.specs.Rig.{Call}
+use Rattle.network.specs.Capacities.{Capacity}
+use Rattle.network.specs.Bags.{bag_capacity, bag_pick, bag_posted, bag_taken}
+use Rattle.network.specs.Lanes.{all_lanes, lanes_capacity, lanes_pick, lanes_posted, lanes_taken}
+use Rattle.rulebody.specs.Kinds.{meant}
+use Rattle.calls.specs.Calls.{call_of}
+use Rattle.runfile.specs.declared.station_body.NetworkKind.{NetworkKind}
+use Rattle.runfile.specs.declared.station_body.NetworkKind.TheVariants.{Bag, Lanes}
+use Rattle.runfile.specs.declared.file.RunFile.{RunFile}
+use Rattle.runfile.specs.declared.fault.FileFault.{FileFault}
+use Rattle.runfile.specs.Coins.{bits}
+use Rattle.runfile.specs.Faults.{number, place}
+use Rattle.runfile.specs.Files.{Says, FirstFault}
+use Rattle.transcript.specs.Lines.{refusal_line}
+use Rattle.playback.specs.Runs.{setting_of, PrintsRun}
+use Rattle.playback.specs.Carrying.{ways_by}
+
+-- A run on a rig over a network of this kind, that has been cleared, prints the text.
+abbrev pub PrintsOver : NetworkKind → (Capacity → Setting) → List Call → List ℕ → Type 0
+PrintsOver Bag g calls text =
+    PrintsRun (ways_by bag_pick bag_posted bag_taken (λ w. bag_capacity) (λ w. w)) [] (g bag_capacity) calls text
+PrintsOver Lanes g calls text =
+    PrintsRun (ways_by lanes_pick lanes_posted lanes_taken (λ w. lanes_capacity) all_lanes) (replicate 10 []) (g lanes_capacity) calls text
+
+-- A run of what a file says prints the text.
+abbrev pub PrintsSaid : RunFile → List ℕ → Type 0
+PrintsSaid run text =
+    PrintsOver run.network (setting_of (meant run.rule) run.setup (bits run.coin)) (map call_of run.calls.items) text
+
+-- Of a file is printed the transcript of what it says; or the line of its first fault.
+abbrev pub PrintsFile : List ℕ → List ℕ → Type 0
+PrintsFile file text =
+    ((run : RunFile) × Says file run × PrintsSaid run text)
+    ⊎ ((e : FileFault) × FirstFault file e × (text ≡ refusal_line (number e) (place e)))
