@@ -1,11 +1,33 @@
 """What the rehearsals want: stations and a rig by docs/PROTOCOL.md and docs/RIG.md once more, in Python.
 
-python3 tools/rig.py prints it. It reads nothing of the crates. The networks are those of expected.py.
+python3 tools/rig.py prints it. It reads nothing of the crates. The networks are those of expected.py, and a gate.
 """
 
 from expected import Bag, Lanes
 
 BLANK = 2
+
+
+class Gate:
+    """It shuts when 40 messages wait, and opens again when fewer than 16 do; while it is shut it turns all away."""
+
+    def __init__(self):
+        self.messages = []
+        self.shut = False
+
+    def post(self, addressee, message):
+        if self.shut:
+            return False
+        self.messages.append(message)
+        self.shut = len(self.messages) == 40
+        return True
+
+    def take(self, hint):
+        if not self.messages:
+            return None
+        answer = self.messages.pop(0)
+        self.shut = self.shut and len(self.messages) >= 16
+        return answer
 
 
 def grading(values):
@@ -207,6 +229,8 @@ def main():
         tell(f"{name}, with losses", rig, True)
         rig = Rig(10, 3, 8, {9}, {0, 2, 3, 6, 7}, [0, 1] * 4, network())
         tell(f"{name}, ten stations and eight rounds", rig)
+    rig = Rig(5, 1, 2, set(), {0, 1}, [1, 0], Gate())
+    tell("gate, five stations of which [0, 1] open with 1", rig)
 
 
 if __name__ == "__main__":

@@ -2,7 +2,7 @@
 use Rattle.std.proofs.Common.{◌≡◌, ℕ, ◌+◌, ◌-◌, ◌*◌, ◌/◌, ◌<◌, ◌≤◌, Bool, true, false, eqb, Some as some, None as none, Option, sym, refl, ap, ◌∙◌, inl, inr, arith}
 use Rattle.std.specs.Option.{option_map_or}
 use Rattle.agreement.specs.Families.{Laws, Quorum}
-use Rattle.agreement.specs.Station.{Setting, stages, Station, Grading, next_input, grading_made, bit_to_commit, grading_of}
+use Rattle.agreement.specs.Station.{Rules, Setting, stages, Station, Grading, next_input, grading_made, bit_to_commit, grading_of}
 use Rattle.agreement.specs.Station.{after_act, closing, proposers, ProposalSet}
 use Rattle.agreement.proofs.Tests.{same?}
 use Rattle.agreement.proofs.Closing.{option_or-cases, option_or-keeps, option_or-some, follows_bits, makes_odd}
@@ -20,7 +20,7 @@ backed P Q (some v) h e = h v refl e
 at_most : (x σ : ℕ) → x ≤ σ + 1 → eqb x (σ + 1) ≡ false → x ≤ σ
 at_most x σ h e = grind arith
 
-module _ (g : Setting) (σ : ℕ) (P : ℕ → Bool) (s : Station) where
+module _ (g : Rules) (σ : ℕ) (P : ℕ → Bool) (s : Station) where
   -- the input of another stage is as it was
   pub input_off : (x : ℕ) → x ≤ σ → (after_act g (closing σ P) s).input x ≡ s.input x
   input_off x h = put_off s.input (σ + 1) (next_input g σ P (s.input (σ - 1))) x (omega arith)
@@ -51,33 +51,34 @@ module _ (g : Setting) (σ : ℕ) (P : ℕ → Bool) (s : Station) where
     | inr e ↦ let k = at_most x σ h e in rw (input_off x k) (d x k)
   ]
 
+module _ (g : Setting) (σ : ℕ) (P : ℕ → Bool) (s : Station) where
   -- what closing leaves of a stage that is closed
   abbrev ClosedAfter : ℕ → Type 0
-  ClosedAfter = let t = after_act g (closing σ P) s in Closed g t.proposal t.admitted t.input t.grading
+  ClosedAfter = let t = after_act g.rules (closing σ P) s in Closed g t.proposal t.admitted t.input t.grading
 
   closed_before : (x : ℕ) → x < σ → Closed g s.proposal s.admitted s.input s.grading x → ClosedAfter x
   closed_before x h k = record {
     set = k.set;
     quorum = k.quorum;
     admitted = k.admitted;
-    next = input_off (x + 1) (omega arith) ∙ (k.next ∙ sym (ap (next_input g x k.set) (input_off (x - 1) (omega arith))));
-    graded = grading_off x (omega arith) ∙ k.graded;
+    next = input_off g.rules σ P s (x + 1) (omega arith) ∙ (k.next ∙ sym (ap (next_input g.rules x k.set) (input_off g.rules σ P s (x - 1) (omega arith))));
+    graded = grading_off g.rules σ P s x (omega arith) ∙ k.graded;
   }
 
-  closed_now : Laws g.rule → Quorum g.rule (proposers s σ (s.admitted σ)) → ProposalSet g s σ P
+  closed_now : Laws g.rule → Quorum g.rule (proposers s σ (s.admitted σ)) → ProposalSet g.rules s σ P
       → ClosedAfter σ
   closed_now laws q val = record {
     set = P;
     quorum = quorum_grows g laws (proposers s σ (s.admitted σ)) (proposers s σ P)
         (λ j h e. backed (s.admitted σ) P (s.proposal σ j) (λ v p a. (val v).1 (a, (j, h, p))) e) q;
     admitted = λ v e. ((val v).0 e).0;
-    next = input_at ∙ sym (ap (next_input g σ P) (input_off (σ - 1) (omega arith)));
-    graded = grading_at;
+    next = input_at g.rules σ P s ∙ sym (ap (next_input g.rules σ P) (input_off g.rules σ P s (σ - 1) (omega arith)));
+    graded = grading_at g.rules σ P s;
   }
 
-  pub good_closing : Laws g.rule → (W W' : World) (i : ℕ) → Grow W W' → Good g W i s → σ ≡ s.stage → σ < stages g
-      → Quorum g.rule (proposers s σ (s.admitted σ)) → ProposalSet g s σ P → s.prepared σ (s.input σ) ≡ true
-      → Good g W' i (after_act g (closing σ P) s)
+  pub good_closing : Laws g.rule → (W W' : World) (i : ℕ) → Grow W W' → Good g W i s → σ ≡ s.stage → σ < stages g.rules
+      → Quorum g.rule (proposers s σ (s.admitted σ)) → ProposalSet g.rules s σ P → s.prepared σ (s.input σ) ≡ true
+      → Good g W' i (after_act g.rules (closing σ P) s)
   good_closing laws W W' i w d₀ at below q val opened =
       let d = good_grows g W W' i s w d₀ in
       record {
@@ -86,12 +87,12 @@ module _ (g : Setting) (σ : ℕ) (P : ℕ → Bool) (s : Station) where
         admits = d.admits;
         course = record {
           stage = omega arith;
-          opened_with = input_off 0 (omega arith) ∙ d.opened_with;
-          inputs = inputs_closing (λ x h. d.inputs x (omega arith));
+          opened_with = input_off g.rules σ P s 0 (omega arith) ∙ d.opened_with;
+          inputs = inputs_closing g.rules σ P s (λ x h. d.inputs x (omega arith));
         };
         opened = λ x h. elim (same? x σ) [
-          | inl e ↦ rw (input_off x (omega arith)) (rw e opened)
-          | inr e ↦ let k : x < σ = grind arith in rw (input_off x (omega arith)) (d.opened x (omega arith))
+          | inl e ↦ rw (input_off g.rules σ P s x (omega arith)) (rw e opened)
+          | inr e ↦ let k : x < σ = grind arith in rw (input_off g.rules σ P s x (omega arith)) (d.opened x (omega arith))
         ];
         closed = λ x h. elim (same? x σ) [
           | inl e ↦ rw e (closed_now laws q val)
@@ -104,17 +105,17 @@ module _ (g : Setting) (σ : ℕ) (P : ℕ → Bool) (s : Station) where
           ];
           committed = λ b e. elim (option_or-cases s.committed (bit_to_commit σ P) b e) [
             | inl p ↦ let k = d.committed b p in
-                (k.0, omega (arith, k.1), grading_off (4 * k.0 + 3) (omega (arith, k.1)) ∙ k.2)
+                (k.0, omega (arith, k.1), grading_off g.rules σ P s (4 * k.0 + 3) (omega (arith, k.1)) ∙ k.2)
             | inr p ↦ let k = commits_is σ P b p.1 in let h : 4 * (σ / 4) + 3 ≡ σ = omega (arith, k.0) in (
               σ / 4,
               omega arith,
-              rw h (grading_at ∙ (makes_odd σ P (omega (arith, k.0)) ∙ ap {B = Option Grading} some k.1)),
+              rw h (grading_at g.rules σ P s ∙ (makes_odd σ P (omega (arith, k.0)) ∙ ap {B = Option Grading} some k.1)),
             )
           ];
           commits = λ ρ b e. elim (same? (4 * ρ + 3) σ) [
             | inl h ↦
                 let t : some (grading_of P) ≡ some (some b, 2)
-                = sym (makes_odd σ P (omega arith)) ∙ (sym grading_at ∙ (rw h at e)) in
+                = sym (makes_odd σ P (omega arith)) ∙ (sym (grading_at g.rules σ P s) ∙ (rw h at e)) in
                 let u : grading_of P ≡ (some b, 2) = cc in
                 let f = option_or-some s.committed b in
                 (f.0, rw (commits_does σ P b (omega arith) u) f.1)

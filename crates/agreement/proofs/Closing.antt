@@ -1,7 +1,7 @@
 -- What the closing table says, quarter by quarter, and of sets.
 use Rattle.std.proofs.Common.{◌≡◌, ℕ, ◌+◌, ◌/◌, ◌%◌, ◌≤◌, Bool, true, false, cond, ◌&&◌, ◌||◌, eqb, ◌⊎◌, Some as some, None as none, Option, sym, refl, ap, ◌∙◌, inl, inr, arith, eqb-true}
 use Rattle.std.specs.Option.{option_or, option_map_or}
-use Rattle.agreement.specs.Station.{Setting, Grading, bit}
+use Rattle.agreement.specs.Station.{Rules, Grading, bit}
 use Rattle.agreement.specs.Station.{grading_of, grading_by, next_input, grading_made, bit_to_commit, bit_at_two, bit_above_zero}
 use Rattle.agreement.specs.Law.{Near}
 use Rattle.agreement.proofs.Tests.{true_or_false, not_true, or_right, and_split}
@@ -36,7 +36,7 @@ pub open_le : (b : Bool) (σ : ℕ) → cond (eqb σ 0) (bit b) 0 ≤ 1
 open_le b σ = elim (eqb σ 0) as (λ t. cond t (bit b) 0 ≤ 1) [ true ↦ bit_le b | false ↦ omega arith ]
 
 -- a grade 2 carries its bit on, whatever the quarter and the coin
-pub two_follows : (g : Setting) (σ : ℕ) (P : ℕ → Bool) (d b : ℕ) → grading_of P ≡ (some b, 2) → next_input g σ P d ≡ b
+pub two_follows : (g : Rules) (σ : ℕ) (P : ℕ → Bool) (d b : ℕ) → grading_of P ≡ (some b, 2) → next_input g σ P d ≡ b
 two_follows g σ P d b e = rw e (go (eqb (σ % 2) 0) (eqb (σ % 4) 1))
   where
     go : (x y : Bool) → cond x b (cond y b b) ≡ b
@@ -49,7 +49,7 @@ quarters σ = elim (same? (σ % 2) 0) [
   | inr h ↦ inr (elim (same? (σ % 4) 1) [ inl k ↦ inl k | inr k ↦ inr (grind arith) ])
 ]
 
-module _ (g : Setting) (σ : ℕ) (P : ℕ → Bool) (d : ℕ) where
+module _ (g : Rules) (σ : ℕ) (P : ℕ → Bool) (d : ℕ) where
   pub follows_even : σ % 2 ≡ 0 → next_input g σ P d ≡ bit_at_two (grading_of P) 2
   follows_even e = rw (eqb_is (σ % 2) 0 e) refl
 
@@ -84,7 +84,7 @@ two_le a b c d m h k = grind arith
 above_le : (a b c : Bool) (d : ℕ) → d ≤ 1 → bit_above_zero (grading_by a b c) d ≤ 1
 above_le a b c d h = grind arith
 
-pub follows_bits : (g : Setting) (σ : ℕ) (P : ℕ → Bool) (d : ℕ) → (σ % 2 ≡ 1 → d ≤ 1)
+pub follows_bits : (g : Rules) (σ : ℕ) (P : ℕ → Bool) (d : ℕ) → (σ % 2 ≡ 1 → d ≤ 1)
     → (next_input g σ P d ≤ 2) × ((σ + 1) % 2 ≡ 0 → next_input g σ P d ≤ 1)
 follows_bits g σ P d h = elim (quarters σ) [
   | inl e ↦ let low = two_le (P 0) (P 1) (P 2) 2 2 (omega arith) (omega arith) in

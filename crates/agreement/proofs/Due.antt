@@ -2,7 +2,7 @@
 use Rattle.std.proofs.Common.{◌≡◌, ℕ, zero, suc, ◌+◌, ◌-◌, ◌*◌, ◌/◌, ◌%◌, ◌<◌, ◌≤◌, Bool, true, false, cond, eqb, ◌⊎◌, ◌↔◌, Some as some, Option, sym, refl, ap, ◌∙◌, subst, inl, inr, arith}
 use Rattle.std.specs.Option.{option_map_or}
 use Rattle.agreement.specs.Families.{Quorum}
-use Rattle.agreement.specs.Station.{Setting, size, stages, Station, ProposalSet, proposers, Idle}
+use Rattle.agreement.specs.Station.{Rules, size, stages, Station, ProposalSet, proposers, Idle}
 use Rattle.agreement.specs.Station.{Act, opening, joining, admitting, closing, deciding}
 use Rattle.agreement.specs.Station.{Applies, place, Before}
 use Rattle.agreement.specs.Theorems.{OneActDue, DueOrIdle, Served, IdleIsServed}
@@ -31,46 +31,46 @@ is_value : (v : ℕ) (o : Option ℕ) → option_map_or (eqb v) o false ≡ true
 is_value v o e = grind arith
 
 -- whether a value belongs to a stage's proposal set
-backed : (g : Setting) (s : Station) (σ v : ℕ)
+backed : (g : Rules) (s : Station) (σ v : ℕ)
     → let A = (s.admitted σ v ≡ true) × ((j : ℕ) × (j < size g) × (s.proposal σ j ≡ some v)) in A ⊎ (A → ⊥)
 backed g s σ v = let f = find (size g) (λ j. option_map_or (eqb v) (s.proposal σ j) false) in grind (arith, is_value)
 
 -- each stage has a proposal set
-pub some_proposal_set : (g : Setting) (s : Station) (σ : ℕ) → (P : ℕ → Bool) × ProposalSet g s σ P
+pub some_proposal_set : (g : Rules) (s : Station) (σ : ℕ) → (P : ℕ → Bool) × ProposalSet g s σ P
 some_proposal_set g s σ = (λ v. (test (backed g s σ v)).0, λ v. (test (backed g s σ v)).1)
 
 -- an act's row: its stage, or the number of stages for rule 5
-abbrev row : Setting → Act → ℕ
+abbrev row : Rules → Act → ℕ
 row g a = cond (eqb (place a).0 0) (place a).1 (stages g)
 
 -- an act's number: 15 to a row, of which 3 to a rule
-abbrev number : Setting → Act → ℕ
+abbrev number : Rules → Act → ℕ
 number g a = 15 * row g a + (3 * ((place a).2 - 1) + (place a).3)
 
 -- the bounds of the place of an act that applies
-abbrev Within : Setting → Act → Type 0
+abbrev Within : Rules → Act → Type 0
 Within g a =
     let x = place a in
     (((x.0 ≡ 0) × (x.1 < stages g)) ⊎ ((x.0 ≡ 1) × (x.1 ≡ 0))) × (1 ≤ x.2) × (x.2 ≤ 5) × (x.3 ≤ 2)
 
 -- these acts' numbers are bounded
-number_below : (g : Setting) (a : Act) → Within g a → number g a < 15 * stages g + 15
+number_below : (g : Rules) (a : Act) → Within g a → number g a < 15 * stages g + 15
 number_below g a w = grind arith
 
 -- such a number gives the row, the rule less 1 and the value
-number_gives : (g : Setting) (a : Act) → Within g a
+number_gives : (g : Rules) (a : Act) → Within g a
     → (number g a / 15 ≡ row g a) × (number g a % 15 / 3 ≡ (place a).2 - 1) × (number g a % 3 ≡ (place a).3)
 number_gives g a w = omega arith
 
 -- these numbers keep the order
-number_grows : (g : Setting) (a b : Act) → Within g a → Within g b → Before a b → number g a < number g b
+number_grows : (g : Rules) (a b : Act) → Within g a → Within g b → Before a b → number g a < number g b
 number_grows g a b v w h = grind arith
 
 -- acts neither of which is before the other have one number
-number_same : (g : Setting) (a b : Act) → (Before a b → ⊥) → (Before b a → ⊥) → number g a ≡ number g b
+number_same : (g : Rules) (a b : Act) → (Before a b → ⊥) → (Before b a → ⊥) → number g a ≡ number g b
 number_same g a b p q = grind arith
 
-module _ (g : Setting) (s : Station) where
+module _ (g : Rules) (s : Station) where
   -- an act that applies is within the bounds
   within : (a : Act) → Applies g s a → Within g a
   within a p = grind arith
@@ -136,7 +136,7 @@ due_or_idle g s = elim (least (Used g s) (used? g s) (15 * stages g + 15)) [
 ]
 
 -- where no act applies, what the rules ask for is done
-idle_served : (g : Setting) (s : Station) → Idle g s → Served g s
+idle_served : (g : Rules) (s : Station) → Idle g s → Served g s
 idle_served g s idle = record {
   opened = λ l. elim (true_or_false (s.prepared s.stage (s.input s.stage))) [
     | inl t ↦ t
@@ -155,7 +155,7 @@ idle_served g s idle = record {
 }
 
 -- and where it is done, none applies
-served_idle : (g : Setting) (s : Station) → Served g s → (a : Act) → Applies g s a → ⊥
+served_idle : (g : Rules) (s : Station) → Served g s → (a : Act) → Applies g s a → ⊥
 served_idle g s d (opening σ v) p =
     let o = d.opened (omega (arith, p.0, p.1)) in cc ((rw (sym p.0, sym p.2) at o), p.3)
 served_idle g s d (joining σ v) p = cc ((d.joined σ v p.0 p.1 p.2 p.4), p.3)

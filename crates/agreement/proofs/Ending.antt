@@ -27,18 +27,18 @@ odd_of x h = grind arith
 
 module _ (g : Setting) (laws : Laws g.rule) (wide : Wide g) (W : World) (rest : Rest g W) where
   -- own stations of a blocking set with one input have prepared it
-  openers : (σ u : ℕ) (Z : Set) → AllAt g W σ → σ < stages g → ((j : ℕ) → Own g j → Z j ≡ true → (W j).input σ ≡ u)
+  openers : (σ u : ℕ) (Z : Set) → AllAt g W σ → σ < stages g.rules → ((j : ℕ) → Own g j → Z j ≡ true → (W j).input σ ≡ u)
       → Blocking g.rule (without Z g.guest) → Blocking g.rule (own_preparers g W σ u)
   openers σ u Z here e z blocks = blocking_grows g laws (without Z g.guest) (own_preparers g W σ u) within blocks
     where
-      within : Part (size g) (without Z g.guest) (own_preparers g W σ u)
+      within : Part (size g.rules) (without Z g.guest) (own_preparers g W σ u)
       within j l t =
           let k = and_not (Z j) (g.guest j) t in let o : Own g j = (l, k.1) in
           is_preparer g W σ u j o (subst (λ x. (W j).prepared σ x ≡ true) (z j o k.0)
           (opened g laws wide W rest j σ o (here j o) e))
 
   -- opened alike
-  pub live_alike : (σ : ℕ) (b : Bool) → Unanimous g W σ (bit b) → AllAt g W σ → σ < stages g → Live g W σ
+  pub live_alike : (σ : ℕ) (b : Bool) → Unanimous g W σ (bit b) → AllAt g W σ → σ < stages g.rules → Live g W σ
   live_alike σ b u here e =
       let blocks : Blocking g.rule (own_preparers g W σ (bit b)) = own_blocks g laws wide (own_preparers g W σ (bit b))
       (λ j o. is_preparer g W σ (bit b) j o (subst (λ x. (W j).prepared σ x ≡ true) (u j o (here j o))
@@ -71,7 +71,7 @@ module _ (g : Setting) (laws : Laws g.rule) (wide : Wide g) (W : World) (rest : 
     abbrev with_input : ℕ → ℕ → Set
     with_input σ u j = eqb ((W j).input σ) u
 
-    one_even : (σ : ℕ) → σ % 2 ≡ 0 → AllAt g W σ → σ < stages g
+    one_even : (σ : ℕ) → σ % 2 ≡ 0 → AllAt g W σ → σ < stages g.rules
         → (v : ℕ) × (v ≤ 2) × Blocking g.rule (own_preparers g W σ v)
     one_even σ even here e = elim (kinds (with_input σ 0) (with_input σ 1)
         (λ j o. zero_or_one ((W j).input σ) (((rest.good j o).inputs σ (here j o)).1 even))) [
@@ -88,7 +88,7 @@ module _ (g : Setting) (laws : Laws g.rule) (wide : Wide g) (W : World) (rest : 
         (not_blank ((W j).input σ) ((rest.good j oj).inputs σ (here j oj)).0 p)
         (not_blank ((W k).input σ) ((rest.good k ok).inputs σ (here k ok)).0 q)
 
-    one_odd : (σ : ℕ) → σ % 2 ≡ 1 → AllAt g W σ → σ < stages g
+    one_odd : (σ : ℕ) → σ % 2 ≡ 1 → AllAt g W σ → σ < stages g.rules
         → (v : ℕ) × (v ≤ 2) × Blocking g.rule (own_preparers g W σ v)
     one_odd σ odd here e = elim (kinds (with_input σ 2) (outside (with_input σ 2)) (λ j o. blank_or_not ((W j).input σ))) [
       | inl h ↦ (2, omega arith, openers σ 2 (with_input σ 2) here e (λ j _ t. eqb-true ((W j).input σ) 2 t) h)
@@ -102,7 +102,7 @@ module _ (g : Setting) (laws : Laws g.rule) (wide : Wide g) (W : World) (rest : 
           )
     ]
 
-    pub live_narrow : (σ : ℕ) → AllAt g W σ → σ < stages g → Live g W σ
+    pub live_narrow : (σ : ℕ) → AllAt g W σ → σ < stages g.rules → Live g W σ
     live_narrow σ here e = record {
       one = elim (same? (σ % 2) 0) [ inl h ↦ one_even σ h here e | inr h ↦ one_odd σ (odd_of σ h) here e ];
       spread = λ i v o a. spread_narrow σ i v o a;
@@ -150,4 +150,4 @@ coin_unanimous g W all ρ un i o h =
     let coin : bit_at_two (grading_of c.set) (bit (g.coin ((4 * ρ + 1) / 4))) ≡ bit (g.coin ρ)
     = ap (λ (x : ℕ). bit_at_two (grading_of c.set) (bit (g.coin x))) round ∙ is in
     ap (W i).input (sym here)
-    ∙ (c.next ∙ (follows_one g (4 * ρ + 1) c.set ((W i).input (4 * ρ + 1 - 1)) (omega arith) ∙ coin))
+    ∙ (c.next ∙ (follows_one g.rules (4 * ρ + 1) c.set ((W i).input (4 * ρ + 1 - 1)) (omega arith) ∙ coin))

@@ -2,6 +2,7 @@
 use Rattle.std.proofs.Common.{◌≡◌, ℕ, ◌+◌, ◌*◌, ◌<◌, ◌≤◌, Bool, sym, ap, ◌∙◌, inl, inr, arith}
 use Rattle.agreement.specs.Families.{Laws}
 use Rattle.agreement.specs.Messages.{message}
+use Rattle.agreement.specs.Networks.{Network}
 use Rattle.agreement.specs.Station.{Setting, Own, bit}
 use Rattle.agreement.specs.Rig.{Rig}
 use Rattle.agreement.specs.Law.{Wide, Narrow, OpenAlike, Quiet, Finished, Decided, Unopposed, Unanimity, EveryRun}
@@ -16,11 +17,11 @@ use Rattle.agreement.proofs.Liveness.{Rest, finished}
 use Rattle.agreement.proofs.Ending.{live_alike, live_narrow, all_decide, all_committed, coin_unanimous}
 
 -- opened alike, all own inputs of stage 0 are that bit
-alike_starts : (g : Setting) (r : Rig) → Inv g r → (v : Bool) → OpenAlike g v → Unanimous g r.station 0 (bit v)
+alike_starts : {N : Type 0} {net : Network N} (g : Setting) (r : Rig N) → Inv net g r → (v : Bool) → OpenAlike g v → Unanimous g r.station 0 (bit v)
 alike_starts g r i v a k o h = (i.good k o).opened_with ∙ ap bit (a k o)
 
 -- a quiet rig with nothing missing is at rest
-rests : (g : Setting) (r : Rig) → Inv g r → Quiet g r → r.missing ≡ 0 → Rest g r.station
+rests : {N : Type 0} {net : Network N} (g : Setting) (r : Rig N) → Inv net g r → Quiet net g r → r.missing ≡ 0 → Rest g r.station
 rests g r v q m = record {
   good = v.good;
   hears = λ i j oi oj p d. elim (v.reach m i j oi oj p d) [
@@ -30,7 +31,7 @@ rests g r v q m = record {
   idle = q.1;
 }
 
-module _ (g : Setting) (laws : Laws g.rule) (r : Rig) (inv : Wide g → Inv g r) where
+module _ {N : Type 0} {net : Network N} (g : Setting) (laws : Laws g.rule) (r : Rig N) (inv : Wide g → Inv net g r) where
   unanimity : (v : Bool) → Wide g → OpenAlike g v → Unanimity g v r
   unanimity v wide a =
       let W = r.station in let i = inv wide in let u = alike_starts g r i v a in (
@@ -39,18 +40,18 @@ module _ (g : Setting) (laws : Laws g.rule) (r : Rig) (inv : Wide g → Inv g r)
             alike_committed g laws wide W i.good v u c.0 b c.1 c.2,
       )
 
-  finished_alike : (v : Bool) → Wide g → OpenAlike g v → Quiet g r → r.missing ≡ 0 → Finished g r
+  finished_alike : (v : Bool) → Wide g → OpenAlike g v → Quiet net g r → r.missing ≡ 0 → Finished g r
   finished_alike v wide a q m =
       let W = r.station in let i = inv wide in let t = rests g r i q m in
       finished g laws wide W t (λ σ here e. live_alike g laws wide W t σ v
       (unanimous_on g laws wide W i.good 0 v (alike_starts g r i v a) σ (omega arith)) here e)
 
-  finished_narrow : Narrow g → Quiet g r → r.missing ≡ 0 → Finished g r
+  finished_narrow : Narrow g → Quiet net g r → r.missing ≡ 0 → Finished g r
   finished_narrow narrow q m =
       let wide = laws.narrow_is_wide g.guest narrow in let t = rests g r (inv wide) q m in
       finished g laws wide r.station t (live_narrow g laws wide r.station t narrow)
 
-  decided_alike : 1 ≤ g.rounds → (v : Bool) → Wide g → OpenAlike g v → Quiet g r → r.missing ≡ 0 → Decided g r
+  decided_alike : 1 ≤ g.rounds → (v : Bool) → Wide g → OpenAlike g v → Quiet net g r → r.missing ≡ 0 → Decided g r
   decided_alike some_round v wide a q m =
       let W = r.station in let i = inv wide in let t = rests g r i q m in let u = alike_starts g r i v a in
       let second = unanimous_on g laws wide W i.good 0 v u (4 * 0 + 2) (omega arith) in
@@ -60,7 +61,7 @@ module _ (g : Setting) (laws : Laws g.rule) (r : Rig) (inv : Wide g → Inv g r)
       (λ j k b c oj ok ej ek. alike_committed g laws wide W i.good v u j b oj ej
       ∙ sym (alike_committed g laws wide W i.good v u k c ok ek))
 
-  decided_unopposed : (round : ℕ) → Narrow g → Unopposed g round r → Quiet g r → r.missing ≡ 0 → Decided g r
+  decided_unopposed : (round : ℕ) → Narrow g → Unopposed g round r → Quiet net g r → r.missing ≡ 0 → Decided g r
   decided_unopposed round narrow un q m =
       let W = r.station in let wide = laws.narrow_is_wide g.guest narrow in
       let i = inv wide in let t = rests g r i q m in
@@ -70,13 +71,13 @@ module _ (g : Setting) (laws : Laws g.rule) (r : Rig) (inv : Wide g → Inv g r)
       (all_committed g laws wide W t round (g.coin round) (coin_unanimous g W i.good round un.1) done)
       (commits_agree g laws wide W i.good narrow)
 
-pub every_run : EveryRun
-every_run g laws some_round calls answers o r h p =
-    let inv : Wide g → Inv g r = λ wide. inv_run g laws wide calls answers o r h p in
+pub every_run : {N : Type 0} → EveryRun N
+every_run net g laws some_round w calls answers o r h p =
+    let inv : Wide g → Inv net g r = λ wide. inv_run net g laws wide calls answers o r h p in
     let wide : Narrow g → Wide g = laws.narrow_is_wide g.guest in
     record {
-      answered = (o, h, p);
-      by_the_rules = stations_follow_rules g calls answers o r h p;
+      answered = (w, o, h, p);
+      by_the_rules = stations_follow_rules net g w calls answers o r h p;
       agreement = λ n. decisions_agree g laws (wide n) r.station (inv (wide n)).good n;
       grades_one_apart = λ n i k round half x y oi ok _ ei ek.
           gradings_near g laws (wide n) r.station (inv (wide n)).good n i k (4 * round + 2 * half + 1) x y oi ok
@@ -88,5 +89,5 @@ every_run g laws some_round calls answers o r h p =
       ];
       decided_when_alike = decided_alike g laws r inv some_round;
       decided_when_unopposed = decided_unopposed g laws r inv;
-      cost = posted_bounded g calls answers o r h p;
+      cost = posted_bounded net g w calls answers o r h p;
     }

@@ -1,12 +1,13 @@
 -- The runs of a single station.
-use Rattle.std.proofs.Common.{◌≡◌, ℕ, zero, suc, ◌+◌, ◌*◌, ◌/◌, ◌<◌, Bool, true, false, cond, ◌&&◌, eqb, ltb, List, [], ◌∷◌, ◌++◌, Some as some, None as none, Option, sym, refl, inr, arith}
+use Rattle.std.proofs.Common.{◌≡◌, ℕ, ◌+◌, ◌*◌, ◌/◌, ◌<◌, Bool, true, false, cond, ◌&&◌, ◌⊎◌, eqb, ltb, List, [], ◌∷◌, ◌++◌, Some as some, None as none, Option, sym, refl, inl, inr, arith}
 use Rattle.agreement.specs.declared.message.Message.{Message}
 use Rattle.agreement.specs.Messages.{Payload, prepare, propose, commit, message}
-use Rattle.agreement.specs.Station.{Own, Station, fresh_station, is_heeded, with_message, after_act, speech, next_input, bit_to_commit, put}
+use Rattle.agreement.specs.Networks.{Exits, Carries}
+use Rattle.agreement.specs.Station.{Own, is_own, Station, fresh_station, is_heeded, with_message, after_act, speech, next_input, bit_to_commit, put}
 use Rattle.agreement.specs.Station.{Act, opening, joining, admitting, closing, deciding, Applies, Idle, Before}
 use Rattle.agreement.specs.Rig.{Rig, Opened, Call, turn, deliver, Broadcasts, Step, Plays}
 use Rattle.agreement.specs.Rig.{Answer, acted, delivered, refused}
-use Rattle.agreement.specs.Example.{one_station, six_calls, SingleRun, QuietRun}
+use Rattle.agreement.specs.Example.{stack, one_station, six_calls, SingleRun, QuietRun}
 use Rattle.agreement.proofs.Thresholds.{threshold_laws}
 use Rattle.agreement.proofs.Exact.{put_changes}
 use Rattle.agreement.proofs.Records.{new, new_changes}
@@ -43,14 +44,14 @@ alone : (k : ℕ) (a b : Act) → Timely k a → Timely k b → Before b a → �
 alone k a b p q h = grind arith
 
 -- the rig after k changes: w waits, and nothing is missing
-record RigAt (k : ℕ) (w : List Message) (r : Rig) : Type 0 where
+record RigAt (k : ℕ) (w : List Message) (r : Rig (List Message)) : Type 0 where
   station : At k (r.station 0)
-  waiting : r.waiting ≡ w
+  waiting : r.network ≡ w
   missing : r.missing ≡ 0
 
 -- the rig with the one station in state s, and with what else a call changes
-abbrev becomes : Station → Rig → List Message → Option Message → ℕ → Rig
-becomes s r w m n = record { station = put r.station 0 s; waiting = w; last = m; posted = n; missing = 0 }
+abbrev becomes : Station → Rig (List Message) → List Message → Option Message → ℕ → Rig (List Message)
+becomes s r w m n = record { station = put r.station 0 s; network = w; last = m; posted = n; missing = 0 }
 
 -- what waits after the station said something or nothing, if nothing waited before
 abbrev posts : Option Payload → List Message
@@ -81,8 +82,8 @@ stage_answers σ =
     ∷ []
 
 -- the rig as it is opened; the numbers from 1 on are no stations
-abbrev start : Rig
-start = record { station = λ _. fresh_station true; waiting = []; last = none; posted = 0; missing = 0 }
+abbrev start : Rig (List Message)
+start = record { station = λ i. fresh_station (is_own (one_station true) i && eqb i 0); network = []; last = none; posted = 0; missing = 0 }
 
 -- and nothing has changed yet
 begins : RigAt 0 [] start
@@ -90,22 +91,22 @@ begins = record { station = grind arith; waiting = refl; missing = refl }
 
 module _ (coin : Bool) where
   -- no other applies
-  timely : (k : ℕ) (s : Station) → At k s → (a : Act) → Applies (one_station coin) s a → Timely k a
+  timely : (k : ℕ) (s : Station) → At k s → (a : Act) → Applies (one_station coin).rules s a → Timely k a
   timely k s h a p = grind arith
 
   -- calls cs with answers xs lead from k changes, where u waits, to l changes, where v waits
   record Leads (k : ℕ) (u : List Message) (cs : List Call) (xs : List Answer) (l : ℕ) (v : List Message) : Type 0 where
-    run : (r : Rig) → RigAt k u r → (r' : Rig) × Plays (one_station coin) cs xs r r' × RigAt l v r'
+    run : (r : Rig (List Message)) → RigAt k u r → (r' : Rig (List Message)) × Plays (stack 4096) (one_station coin) cs xs r r' × RigAt l v r'
 
   -- one call
   once : {k l : ℕ} {u v : List Message} {c : Call} {x : Answer}
-      → ((r : Rig) → RigAt k u r → (r' : Rig) × Step (one_station coin) c x r r' × RigAt l v r')
+      → ((r : Rig (List Message)) → RigAt k u r → (r' : Rig (List Message)) × Step (stack 4096) (one_station coin) c x r r' × RigAt l v r')
       → Leads k u (c ∷ []) (x ∷ []) l v
   once f = record { run = λ r h. let (q, s, i) = f r h in (q, (q, s, refl), i) }
 
   -- two runs in a row
-  joined : (cs ds : List Call) (xs ys : List Answer) (r q r' : Rig) → Plays (one_station coin) cs xs r q
-      → Plays (one_station coin) ds ys q r' → Plays (one_station coin) (cs ++ ds) (xs ++ ys) r r'
+  joined : (cs ds : List Call) (xs ys : List Answer) (r q r' : Rig (List Message)) → Plays (stack 4096) (one_station coin) cs xs r q
+      → Plays (stack 4096) (one_station coin) ds ys q r' → Plays (stack 4096) (one_station coin) (cs ++ ds) (xs ++ ys) r r'
   joined [] ds [] ys r q r' e p = rw (← e) p
   joined [] ds (x ∷ xs) ys r q r' e p = absurd e
   joined (c ∷ cs) ds [] ys r q r' e p = absurd e
@@ -123,27 +124,28 @@ module _ (coin : Bool) where
   }
 
   -- none of it is turned away
-  says : (p : Option Payload) (s : Station) (r : Rig) → r.waiting ≡ [] → r.missing ≡ 0
-      → (n : ℕ) × Broadcasts (one_station coin) 0 p r (becomes s r (posts p) r.last n)
-  says none s r e m = (r.posted, (λ x. rw e, refl, sym m))
-  says (some p) s r e m = (r.posted + 1, (λ x. rw e, refl, rw (e, m)))
+  says : (p : Option Payload) (s : Station) (r : Rig (List Message)) → r.network ≡ [] → r.missing ≡ 0
+      → (n : ℕ) × Broadcasts (stack 4096) (one_station coin) 0 p r (becomes s r (posts p) r.last n)
+  says none s r e m = (r.posted, (sym e, refl, sym m))
+  says (some p) s r e m =
+      (r.posted + 1, (0, (r.network, 0, (refl, refl), inl ((rw e refl, rw e refl, rw e (λ x. refl)), refl)), refl, rw m refl))
 
   -- a turn: an act that applies is the one due
   acts : {k l : ℕ} (a : Act) (p : Option Payload)
-      → ((s : Station) → At k s → Applies (one_station coin) s a × (speech a s ≡ p)
-      × At l (after_act (one_station coin) a s))
+      → ((s : Station) → At k s → Applies (one_station coin).rules s a × (speech a s ≡ p)
+      × At l (after_act (one_station coin).rules a s))
       → Leads k [] (turn 0 ∷ []) (acted 0 a ∷ []) l (posts p)
   acts {k} a p f = once (λ r h.
       let s = r.station 0 in
       let (d, e, i) = f s h.station in
-      let (n, b) = says p (after_act (one_station coin) a s) r h.waiting h.missing in (
-        becomes (after_act (one_station coin) a s) r (posts p) r.last n,
+      let (n, b) = says p (after_act (one_station coin).rules a s) r h.waiting h.missing in (
+        becomes (after_act (one_station coin).rules a s) r (posts p) r.last n,
         (
           refl,
           record {
             by_own = (omega arith, refl);
             due = (d, λ x y z. alone k a x (timely k s h.station a d) (timely k s h.station x z) y);
-            stations = put_changes 0 (after_act (one_station coin) a s) r.station;
+            stations = put_changes 0 (after_act (one_station coin).rules a s) r.station;
             posts = rw e b;
             last = refl;
           },
@@ -170,7 +172,7 @@ module _ (coin : Bool) where
           0,
           refl,
           record {
-            waiting = λ x. rw h.waiting;
+            exits = (rw h.waiting refl, rw h.waiting refl, rw h.waiting (λ x. refl));
             stations = rw d (put_changes 0 (with_message m s) r.station);
             changed = λ _. new_changes m s e;
             unchanged = λ x. cc;
@@ -182,12 +184,12 @@ module _ (coin : Bool) where
       ))
 
   -- a stage that closes with {1} is followed by input 1
-  follows_one : (σ v : ℕ) → next_input (one_station coin) σ one v ≡ 1
+  follows_one : (σ v : ℕ) → next_input (one_station coin).rules σ one v ≡ 1
   follows_one σ v = grind arith
 
   -- closing a stage
   closes : (σ : ℕ) → σ < 4 → (s : Station) → At (5 * σ + 4) s → let a = closing σ one in
-      Applies (one_station coin) s a × (speech a s ≡ last_word σ) × At (5 * σ + 5) (after_act (one_station coin) a s)
+      Applies (one_station coin).rules s a × (speech a s ≡ last_word σ) × At (5 * σ + 5) (after_act (one_station coin).rules a s)
   closes σ l s h =
       let c : s.committed ≡ none = grind arith in
       (grind arith, rw (c, commits_one σ l) (grind arith), rw (c, follows_one, commits_one σ l) (grind arith))
@@ -216,19 +218,33 @@ module _ (coin : Bool) where
   )
 
   -- so it is, in the setting
-  opened : Opened (one_station coin) start
+  opened : Opened (stack 4096) (one_station coin) [] start
   opened = record {
-    stations = elim [ zero ↦ λ _. refl | suc i ↦ λ o. absurd (omega (arith, o)) ];
-    waiting = refl;
+    stations = λ i. refl;
+    network = (refl, refl);
     last = refl;
     posted = refl;
     missing = refl;
   }
 
+-- a stack carries messages
+stack_carries : (holds : ℕ) → Carries (stack holds) (λ _. true)
+stack_carries holds = record {
+  clears = λ w f. ((refl, refl), refl);
+  posts = λ w m f t. ((t, refl, λ x. refl), refl);
+  takes = λ w h f. takes w h;
+}
+  where
+    takes : (w : List Message) (h : ℕ)
+        → (w ≡ []) ⊎ ((m : Message) × Exits (stack holds) h m w ((stack holds).taken w h) × (true ≡ true))
+    takes [] h = inl refl
+    takes (m ∷ v) h = inr (m, (refl, refl, λ x. refl), refl)
+
 -- the six calls in stage 0
 pub single_run : SingleRun
 single_run = let (r, p, h) = (stage false 0 (omega arith)).run start begins in record {
   lawful = threshold_laws 1 0 0 (omega arith) (omega arith);
+  carries = stack_carries 4096;
   start = start;
   end = r;
   opened = opened false;
@@ -243,7 +259,7 @@ only_own : (P : ℕ → Type 0) → P 0 → (i : ℕ) → Own (one_station true)
 only_own P p i o = let e : i ≡ 0 = omega (arith, o.0) in rw e p
 
 -- after the last change no act applies
-rests : (s : Station) → At 22 s → Idle (one_station true) s
+rests : (s : Station) → At 22 s → Idle (one_station true).rules s
 rests s h a p = let t = timely true 22 s h a p in grind arith
 
 -- all stages
@@ -261,7 +277,7 @@ quiet_run = let (cs, xs, f) = stages true in let (r, p, h) = f.run start begins 
     omega arith,
     λ i b o. only_own (λ i. (r.station i).grading 1 ≡ some (some b, 2) → b ≡ 1) (h.station.grading b) i o,
   );
-  quiet = (λ m _ _. rw h.waiting, only_own (λ i. Idle (one_station true) (r.station i)) (rests (r.station 0) h.station));
+  quiet = (λ m _ _. rw h.waiting, only_own (λ i. Idle (one_station true).rules (r.station i)) (rests (r.station 0) h.station));
   finished = only_own (λ i. (r.station i).stage ≡ 4) h.station.stage;
   decided = h.station.decision;
   none_missing = h.missing;

@@ -1,15 +1,16 @@
 -- What is true of an own station in every run, and how it lasts while other stations go on.
-use Rattle.std.proofs.Common.{◌≡◌, ℕ, ◌+◌, ◌-◌, ◌*◌, ◌%◌, ◌<◌, ◌≤◌, Bool, true, false, Some as some, Option, refl, ap, ◌∙◌, subst, inl, inr, arith}
+use Rattle.std.proofs.Common.{◌≡◌, ℕ, ◌+◌, ◌-◌, ◌*◌, ◌%◌, ◌<◌, ◌≤◌, Bool, true, false, ◌&&◌, Some as some, Option, refl, ap, ◌∙◌, subst, inl, inr, arith}
 use Rattle.std.specs.Option.{option_map_or}
-use Rattle.agreement.specs.Sets.{without}
 use Rattle.agreement.specs.Families.{Blocking, Quorum}
 use Rattle.agreement.specs.Station.{Setting, stages, Own, Station, fresh_station, Grading, bit, next_input, grading_made}
+use Rattle.agreement.specs.Networks.{Network}
 use Rattle.agreement.specs.Rig.{Rig, Opened, Changes}
+use Rattle.agreement.proofs.Own.{own_is}
 
 -- an own station opens with its bit
-pub opens_with : (g : Setting) (r : Rig) → Opened g r → (i : ℕ) → Own g i → r.station i ≡ fresh_station (g.opens i)
-opens_with g r h i o =
-    let p = o.1 in let e : without g.opens g.guest i ≡ g.opens i = grind arith in h.stations i o.0 ∙ ap fresh_station e
+pub opens_with : {N : Type 0} {net : Network N} {w : N} (g : Setting) (r : Rig N) → Opened net g w r → (i : ℕ) → Own g i
+    → r.station i ≡ fresh_station (g.opens i)
+opens_with g r h i o = h.stations i ∙ ap (λ b. fresh_station (b && g.opens i)) (own_is g i o)
 
 abbrev pub World : Type 0
 World = ℕ → Station
@@ -30,7 +31,7 @@ pub record Heard (g : Setting) (W : World) (who : ℕ → ℕ → ℕ → Bool) 
 
 -- what it admitted a quorum prepared, and what it proposed it admitted first
 pub record Admits (g : Setting) (who : ℕ → ℕ → ℕ → Bool) (holds : ℕ → ℕ → Bool) (says : ℕ → Option ℕ) : Type 0 where
-  pub admitted : (σ v : ℕ) → holds σ v ≡ true → (σ < stages g) × (v ≤ 2) × Quorum g.rule (who σ v)
+  pub admitted : (σ v : ℕ) → holds σ v ≡ true → (σ < stages g.rules) × (v ≤ 2) × Quorum g.rule (who σ v)
   pub first_admitted : (σ v : ℕ) → says σ ≡ some v → holds σ v ≡ true
   pub first_proposed : (σ v : ℕ) → holds σ v ≡ true → (w : ℕ) × (says σ ≡ some w)
 
@@ -40,7 +41,7 @@ Inputs now input = (σ : ℕ) → σ ≤ now → (input σ ≤ 2) × (σ % 2 ≡
 
 -- its stage is no further than the end, and its inputs up to there are such
 pub record Course (g : Setting) (i : ℕ) (now : ℕ) (input : ℕ → ℕ) : Type 0 where
-  pub stage : now ≤ stages g
+  pub stage : now ≤ stages g.rules
   pub opened_with : input 0 ≡ bit (g.opens i)
   pub inputs : Inputs now input
 
@@ -50,7 +51,7 @@ pub record Closed (g : Setting) (what : ℕ → ℕ → Option ℕ) (holds : ℕ
   pub set : ℕ → Bool
   pub quorum : Quorum g.rule (λ j. option_map_or set (what σ j) false)
   pub admitted : (v : ℕ) → set v ≡ true → holds σ v ≡ true
-  pub next : input (σ + 1) ≡ next_input g σ set (input (σ - 1))
+  pub next : input (σ + 1) ≡ next_input g.rules σ set (input (σ - 1))
   pub graded : grading σ ≡ grading_made σ set
 
 -- gradings and commitment come of closed stages
@@ -63,7 +64,7 @@ pub record Committed (now : ℕ) (grading : ℕ → Option Grading) (bit : Optio
 pub record Good (g : Setting) (W : World) (i : ℕ) (s : Station) : Type 0 where
   pub heard : Heard g W s.preparers s.proposal s.committers
   pub open heard use *
-  pub prepared : (σ v : ℕ) → s.prepared σ v ≡ true → (σ ≤ s.stage) × (σ < stages g) × (v ≤ 2) × Origin g W σ v
+  pub prepared : (σ v : ℕ) → s.prepared σ v ≡ true → (σ ≤ s.stage) × (σ < stages g.rules) × (v ≤ 2) × Origin g W σ v
   pub admits : Admits g s.preparers s.admitted s.proposed
   pub open admits use *
   pub course : Course g i s.stage s.input

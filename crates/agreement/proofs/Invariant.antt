@@ -1,8 +1,9 @@
 -- The invariant of a rig, and the calls that change no station: they keep it.
-use Rattle.std.proofs.Common.{◌≡◌, ℕ, Bool, true, ◌&&◌, ◌⊎◌, ◌∷◌, Some as some, sym, refl, ◌∙◌, subst, inl, inr, arith}
+use Rattle.std.proofs.Common.{◌≡◌, ℕ, Bool, true, ◌&&◌, ◌⊎◌, Some as some, sym, refl, ◌∙◌, subst, inl, inr, arith}
 use Rattle.agreement.specs.declared.message.Message.{Message}
-use Rattle.agreement.specs.Messages.{Same, Payload, prepare, propose, commit, message}
+use Rattle.agreement.specs.Messages.{Payload, prepare, propose, commit, message}
 use Rattle.agreement.specs.Station.{Setting, Own, is_own, fresh_station}
+use Rattle.agreement.specs.Networks.{Network, Enters}
 use Rattle.agreement.specs.Rig.{Rig, Opened, Stays, Lost}
 use Rattle.agreement.specs.Theorems.{Does}
 use Rattle.agreement.proofs.Tests.{and_both}
@@ -11,21 +12,21 @@ use Rattle.agreement.proofs.Own.{own_is}
 use Rattle.agreement.proofs.Facts.{opens_with, World, Good, ext_refl, Grow, good_same}
 use Rattle.agreement.proofs.Hear.{Sent, sent_grows}
 use Rattle.agreement.proofs.Says.{Hears}
-use Rattle.agreement.proofs.Copies.{Waits, nothing_waits, waits_tail, waits_cases, waits_same}
-use Rattle.agreement.proofs.Waiting.{message_from, message_to}
+use Rattle.agreement.proofs.Copies.{Waits, nothing_waits}
+use Rattle.agreement.proofs.Waiting.{message_from, message_to, entering_keeps, entering_new, exiting_old, exiting_keeps}
 
 -- what own j has done, own i has heard, or the message that says so waits
-abbrev pub Reaches : Rig → ℕ → ℕ → Type 0
-Reaches r i j =
-    (p : Payload) → Does (r.station j) p → Hears (r.station i) j p ⊎ Waits (message j i p) r.waiting
+abbrev pub Reaches : {N : Type 0} → Network N → Rig N → ℕ → ℕ → Type 0
+Reaches net r i j =
+    (p : Payload) → Does (r.station j) p → Hears (r.station i) j p ⊎ Waits (message j i p) (net.waiting r.network)
 
 -- Own stations' facts hold; messages under an own name that wait, or came last, say what their sender did; and while none
 -- is missing, what own stations did reaches all of them.
-pub record Inv (g : Setting) (r : Rig) : Type 0 where
+pub record Inv {N : Type 0} (net : Network N) (g : Setting) (r : Rig N) : Type 0 where
   pub good : (i : ℕ) → Own g i → Good g r.station i (r.station i)
-  pub waiting : (m : Message) → Waits m r.waiting → Own g m.sender → Sent r.station m
+  pub waiting : (m : Message) → Waits m (net.waiting r.network) → Own g m.sender → Sent r.station m
   pub last : (m : Message) → r.last ≡ some m → Own g m.sender → Sent r.station m
-  pub reach : r.missing ≡ 0 → (i j : ℕ) → Own g i → Own g j → Reaches r i j
+  pub reach : r.missing ≡ 0 → (i j : ℕ) → Own g i → Own g j → Reaches net r i j
 
 good_fresh : (g : Setting) (W : World) (i : ℕ) → Good g W i (fresh_station (g.opens i))
 good_fresh g W i = record {
@@ -56,16 +57,16 @@ fresh_does b (prepare σ v) e = cc
 fresh_does b (propose σ v) e = cc
 fresh_does b (commit c) e = cc
 
-pub inv_opened : (g : Setting) (r : Rig) → Opened g r → Inv g r
-inv_opened g r o = record {
+pub inv_opened : {N : Type 0} {net : Network N} {w : N} (g : Setting) (r : Rig N) → Opened net g w r → Inv net g r
+inv_opened {net} g r o = record {
   good = λ i k. rw (opens_with g r o i k) (good_fresh g r.station i);
-  waiting = λ m h k. absurd (nothing_waits m r.waiting o.waiting h);
+  waiting = λ m h k. absurd (nothing_waits m (net.waiting r.network) o.network.1 h);
   last = λ m h k. cc (sym o.last ∙ h);
   reach = λ z i j oi oj p d. absurd (fresh_does (g.opens j) p (subst (λ x. Does x p) (opens_with g r o j oj) d));
 }
 
 -- calls that change no station
-module _ (g : Setting) (r r' : Rig) (v : Inv g r) (same : Stays r r') where
+module _ {N : Type 0} {net : Network N} (g : Setting) (r r' : Rig N) (v : Inv net g r) (same : Stays r r') where
   grow : Grow r.station r'.station
   grow k = rw (same.0 k) (ext_refl (r.station k))
 
@@ -76,43 +77,40 @@ module _ (g : Setting) (r r' : Rig) (v : Inv g r) (same : Stays r r') where
   last_still m h o = still m (v.last m (sym same.1 ∙ h) o)
 
   reach_still : r.missing ≡ 0 → (i j : ℕ) → Own g i → Own g j → (p : Payload) → Does (r'.station j) p
-      → Hears (r'.station i) j p ⊎ Waits (message j i p) r.waiting
+      → Hears (r'.station i) j p ⊎ Waits (message j i p) (net.waiting r.network)
   reach_still z i j oi oj p d = elim (v.reach z i j oi oj p (subst (λ x. Does x p) (same.0 j) d)) [
     | inl h ↦ inl (subst (λ x. Hears x j p) (sym (same.0 i)) h)
     | inr h ↦ inr h
   ]
 
   -- one message more, from a guest or one that came before
-  pub inv_posted : (m : Message) → Same r'.waiting (m ∷ r.waiting) → r'.missing ≡ r.missing
-      → (Own g m.sender → Sent r.station m) → Inv g r'
+  pub inv_posted : (m : Message) → Enters net m r.network r'.network → r'.missing ≡ r.missing
+      → (Own g m.sender → Sent r.station m) → Inv net g r'
   inv_posted m more missing known = record {
     good = good_same g r.station r'.station same.0 v.good;
-    waiting = λ x h o. elim (waits_cases x m r.waiting (waits_same x r'.waiting (m ∷ r.waiting) more h)) [
+    waiting = λ x h o. elim (entering_new net m r.network r'.network more x h) [
       | inl e ↦ still x (rw e (known (subst (λ (y : Message). Own g y.sender) e o)))
       | inr u ↦ still x (v.waiting x u o)
     ];
     last = last_still;
     reach = λ z i j oi oj p d. elim (reach_still (sym missing ∙ z) i j oi oj p d) [
       | inl h ↦ inl h
-      | inr h ↦ inr (waits_same (message j i p) (m ∷ r.waiting) r'.waiting (λ x. sym (more x))
-          (waits_tail (message j i p) m r.waiting h))
+      | inr h ↦ inr (entering_keeps net m r.network r'.network more (message j i p) h)
     ];
   }
 
   -- one message less
-  pub inv_lost : (m : Message) → Lost g m r r' → Inv g r'
-  inv_lost m c = record {
+  pub inv_lost : (t : ℕ) (m : Message) → Lost net g t m r r' → Inv net g r'
+  inv_lost t m c = record {
     good = good_same g r.station r'.station same.0 v.good;
-    waiting = λ x h o. still x (v.waiting x
-        (waits_same x (m ∷ r'.waiting) r.waiting (λ y. sym (c.0 y)) (waits_tail x m r'.waiting h)) o);
+    waiting = λ x h o. still x (v.waiting x (exiting_old net t m r.network r'.network c.0 x h) o);
     last = last_still;
     reach = λ z i j oi oj p d. elim (reach_still (omega (arith, c.2)) i j oi oj p d) [
       | inl h ↦ inl h
-      | inr h ↦ elim (waits_cases (message j i p) m r'.waiting
-          (waits_same (message j i p) r.waiting (m ∷ r'.waiting) c.0 h)) [
-            | inl e ↦ absurd (counted z i j oi oj p e)
-            | inr u ↦ inr u
-          ]
+      | inr h ↦ elim (exiting_keeps net t m r.network r'.network c.0 (message j i p) h) [
+        | inl e ↦ absurd (counted z i j oi oj p e)
+        | inr u ↦ inr u
+      ]
     ];
   }
     where

@@ -20,6 +20,8 @@ pub mod Runs
 pub mod Safety
 pub mod Due
 pub mod Exact
+pub mod Answered
+pub mod Takes
 pub mod Liveness
 pub mod Ending
 pub mod Lasting

@@ -34,11 +34,11 @@ pub record Live (g : Setting) (W : World) (σ : ℕ) : Type 0 where
 pub record Rest (g : Setting) (W : World) : Type 0 where
   pub good : (k : ℕ) → Own g k → Good g W k (W k)
   pub hears : (i j : ℕ) → Own g i → Own g j → (p : Payload) → Does (W j) p → Hears (W i) j p
-  pub idle : (i : ℕ) → Own g i → Idle g (W i)
+  pub idle : (i : ℕ) → Own g i → Idle g.rules (W i)
 
 module _ (g : Setting) (laws : Laws g.rule) (wide : Wide g) (W : World) (rest : Rest g W) where
   -- whoever came to a stage has prepared its input there
-  pub opened : (i σ : ℕ) → Own g i → σ ≤ (W i).stage → σ < stages g → (W i).prepared σ ((W i).input σ) ≡ true
+  pub opened : (i σ : ℕ) → Own g i → σ ≤ (W i).stage → σ < stages g.rules → (W i).prepared σ ((W i).input σ) ≡ true
   opened i σ o h e = elim (same? σ (W i).stage) [
     | inl k ↦ elim (true_or_false ((W i).prepared σ ((W i).input σ))) [
       | inl t ↦ t
@@ -48,7 +48,7 @@ module _ (g : Setting) (laws : Laws g.rule) (wide : Wide g) (W : World) (rest : 
   ]
 
   -- a value that a blocking set of own stations prepared, all prepare and admit
-  joins : (i σ v : ℕ) → Own g i → σ ≤ (W i).stage → σ < stages g → v ≤ 2 → Blocking g.rule (own_preparers g W σ v)
+  joins : (i σ v : ℕ) → Own g i → σ ≤ (W i).stage → σ < stages g.rules → v ≤ 2 → Blocking g.rule (own_preparers g W σ v)
       → (W i).prepared σ v ≡ true
   joins i σ v o h e l blocks = elim (true_or_false ((W i).prepared σ v)) [
     | inl t ↦ t
@@ -63,7 +63,7 @@ module _ (g : Setting) (laws : Laws g.rule) (wide : Wide g) (W : World) (rest : 
     ))
   ]
 
-  admits : (i σ v : ℕ) → Own g i → AllAt g W σ → σ < stages g → v ≤ 2 → Blocking g.rule (own_preparers g W σ v)
+  admits : (i σ v : ℕ) → Own g i → AllAt g W σ → σ < stages g.rules → v ≤ 2 → Blocking g.rule (own_preparers g W σ v)
       → (W i).admitted σ v ≡ true
   admits i σ v o here e l blocks = elim (true_or_false ((W i).admitted σ v)) [
     | inl t ↦ t
@@ -78,9 +78,9 @@ module _ (g : Setting) (laws : Laws g.rule) (wide : Wide g) (W : World) (rest : 
   ]
 
   -- then all close
-  closes : (σ : ℕ) → AllAt g W σ → σ < stages g → Live g W σ → (i : ℕ) → Own g i → σ + 1 ≤ (W i).stage
+  closes : (σ : ℕ) → AllAt g W σ → σ < stages g.rules → Live g W σ → (i : ℕ) → Own g i → σ + 1 ≤ (W i).stage
   closes σ here e live i o = elim (same? σ (W i).stage) [
-    | inl k ↦ let set = some_proposal_set g (W i) σ in
+    | inl k ↦ let set = some_proposal_set g.rules (W i) σ in
         let q = own_quorum g laws wide (proposers (W i) σ ((W i).admitted σ)) backs in
         absurd (rest.idle i o (closing σ set.0) (k, e, q, set.1))
     | inr k ↦ omega (arith, apart_lt σ (W i).stage (here i o) k)
@@ -97,10 +97,10 @@ module _ (g : Setting) (laws : Laws g.rule) (wide : Wide g) (W : World) (rest : 
           rw said mine
 
   -- where every stage that all come to is live, all come to the end
-  pub finished : ((σ : ℕ) → AllAt g W σ → σ < stages g → Live g W σ) → (k : ℕ) → Own g k → (W k).stage ≡ stages g
-  finished live k o = let a = all_come (stages g) (omega arith) k o in let b = (rest.good k o).stage in omega arith
+  pub finished : ((σ : ℕ) → AllAt g W σ → σ < stages g.rules → Live g W σ) → (k : ℕ) → Own g k → (W k).stage ≡ stages g.rules
+  finished live k o = let a = all_come (stages g.rules) (omega arith) k o in let b = (rest.good k o).stage in omega arith
     where
-      all_come : (τ : ℕ) → τ ≤ stages g → AllAt g W τ
+      all_come : (τ : ℕ) → τ ≤ stages g.rules → AllAt g W τ
       all_come zero h k o = omega arith
       all_come (suc τ) h k o =
           let here = all_come τ (omega arith) in

@@ -19,10 +19,10 @@ SomeOwn g X = (j : ℕ) × Own g j × (X j ≡ true)
 abbrev pub AllOwn : Setting → Set → Type 0
 AllOwn g X = (j : ℕ) → Own g j → X j ≡ true
 
-some_own : (g : Setting) (X : Set) → Some (size g) (without X g.guest) → SomeOwn g X
+some_own : (g : Setting) (X : Set) → Some (size g.rules) (without X g.guest) → SomeOwn g X
 some_own g X s = let k = and_not (X s.0) (g.guest s.0) s.2 in (s.0, (s.1, k.1), k.0)
 
-own_part : (g : Setting) (X : Set) → AllOwn g X → Part (size g) (outside g.guest) X
+own_part : (g : Setting) (X : Set) → AllOwn g X → Part (size g.rules) (outside g.guest) X
 own_part g X all j h e = all j (h, turned (g.guest j) e)
   where
     turned : (b : Bool) → not b ≡ true → b ≡ false
@@ -35,10 +35,10 @@ covered false false true e = refl
 covered false false false e = e refl
 
 module _ (g : Setting) (laws : Laws g.rule) where
-  pub quorum_grows : (X Y : Set) → Part (size g) X Y → Quorum g.rule X → Quorum g.rule Y
+  pub quorum_grows : (X Y : Set) → Part (size g.rules) X Y → Quorum g.rule X → Quorum g.rule Y
   quorum_grows X Y p = (upward_closed g.rule laws X Y p).0
 
-  pub blocking_grows : (X Y : Set) → Part (size g) X Y → Blocking g.rule X → Blocking g.rule Y
+  pub blocking_grows : (X Y : Set) → Part (size g.rules) X Y → Blocking g.rule X → Blocking g.rule Y
   blocking_grows X Y p = (upward_closed g.rule laws X Y p).1
 
   -- with wide guests

@@ -50,7 +50,7 @@ module _ (g : Setting) (laws : Laws g.rule) (wide : Wide g) (W : World)
   unanimous_next σ b u i o h =
       let k : σ < (W i).stage = omega arith in
       let c = (all i o).closed σ k in
-      c.next ∙ two_follows g σ c.set ((W i).input (σ - 1)) (bit b) (unanimous_set σ b u i o k)
+      c.next ∙ two_follows g.rules σ c.set ((W i).input (σ - 1)) (bit b) (unanimous_set σ b u i o k)
 
   -- unanimity lasts
   pub unanimous_on : (σ : ℕ) (b : Bool) → Unanimous g W σ (bit b) → (τ : ℕ) → σ ≤ τ → Unanimous g W τ (bit b)
@@ -125,7 +125,7 @@ module _ (g : Setting) (laws : Laws g.rule) (wide : Wide g) (W : World)
         let P = (all a.0 a.1).closed (σ - 1) h in (
           h,
           sym a.3 ∙ (ap (W a.0).input (sym here)
-              ∙ (P.next ∙ follows_even g (σ - 1) P.set ((W a.0).input (σ - 1 - 1)) (omega arith))),
+              ∙ (P.next ∙ follows_even g.rules (σ - 1) P.set ((W a.0).input (σ - 1 - 1)) (omega arith))),
         )
 
     -- in an odd stage the own inputs hold one bit
@@ -163,7 +163,7 @@ module _ (g : Setting) (laws : Laws g.rule) (wide : Wide g) (W : World)
         let made : (W k).grading (4 * ρ + 3) ≡ some (grading_of c.set)
         = c.graded ∙ makes_odd (4 * ρ + 3) c.set (omega arith) in
         let a = gradings_near i k (4 * ρ + 3) (some b, 2) (grading_of c.set) o ok (omega arith) e made in
-        c.next ∙ (follows_three g (4 * ρ + 3) c.set ((W k).input (4 * ρ + 3 - 1)) (omega arith)
+        c.next ∙ (follows_three g.rules (4 * ρ + 3) c.set ((W k).input (4 * ρ + 3 - 1)) (omega arith)
         ∙ beside_two b (grading_of c.set) ((W k).input (4 * ρ + 3 - 1)) a)
 
     graded_bit : (i σ b m : ℕ) → Own g i → σ % 2 ≡ 1 → (W i).grading σ ≡ some (some b, m) → b ≤ 1

@@ -3,7 +3,7 @@ use Rattle.std.proofs.Common.{◌≡◌, ℕ, ◌+◌, ◌*◌, ◌<◌, ◌≤�
 use Rattle.std.specs.Option.{option_or}
 use Rattle.agreement.specs.declared.message.Message.{Message}
 use Rattle.agreement.specs.Messages.{Payload, prepare, propose, commit, message}
-use Rattle.agreement.specs.Station.{Setting, size, stages, Own, Station, grading_of, is_heeded, with_message}
+use Rattle.agreement.specs.Station.{Rules, Setting, size, stages, Own, Station, grading_of, is_heeded, with_message}
 use Rattle.agreement.specs.Station.{Act, opening, joining, admitting, closing, deciding, Applies, after_act, speech, bit_to_commit}
 use Rattle.agreement.specs.Theorems.{Does, SaidOnce}
 use Rattle.agreement.proofs.Tests.{or_left, or_right, and_both, added, adds, eqb_same, same?}
@@ -24,11 +24,11 @@ record Deaf (s s' : Station) : Type 0 where
   proposal : s'.proposal ≡ s.proposal
   committers : s'.committers ≡ s.committers
 
-deaf : (g : Setting) (a : Act) (s : Station) → Deaf s (after_act g a s)
+deaf : (g : Rules) (a : Act) (s : Station) → Deaf s (after_act g a s)
 deaf g (opening σ v) s = record { preparers = refl; proposal = refl; committers = refl }
 deaf g a s = record { preparers = refl; proposal = refl; committers = refl }
 
-pub hears_after : (g : Setting) (a : Act) (s : Station) (j : ℕ) (p : Payload) → Hears s j p → Hears (after_act g a s) j p
+pub hears_after : (g : Rules) (a : Act) (s : Station) (j : ℕ) (p : Payload) → Hears s j p → Hears (after_act g a s) j p
 hears_after g a s j (prepare σ v) h = ap (λ (f : ℕ → ℕ → ℕ → Bool). f σ v j) (deaf g a s).preparers ∙ h
 hears_after g a s j (propose σ v) h = ap (λ (f : ℕ → ℕ → Option ℕ). f σ j) (deaf g a s).proposal ∙ h
 hears_after g a s j (commit b) h = ap (λ (f : ℕ → ℕ → Bool). f b j) (deaf g a s).committers ∙ h
@@ -68,7 +68,7 @@ prepares_new : (σ v x y : ℕ) (s : Station) → (s.prepared x y || (eqb x σ &
 prepares_new σ v x y s h = elim (added (s.prepared x y) x y σ v h) [ inl e ↦ inl e | inr e ↦ inr (rw (e.0, e.1) refl) ]
 
 -- what an act makes it do anew, the act says
-pub speaks : (g : Setting) (a : Act) (s : Station) (p : Payload) → Does (after_act g a s) p
+pub speaks : (g : Rules) (a : Act) (s : Station) (p : Payload) → Does (after_act g a s) p
     → Does s p ⊎ (speech a s ≡ some p)
 speaks g (opening σ v) s (prepare x y) h = prepares_new σ v x y s h
 speaks g (joining σ v) s (prepare x y) h = prepares_new σ v x y s h
@@ -96,7 +96,7 @@ committing none p e = cc
 committing (some b) p e = (b, refl, cc)
 
 -- and what it says, it has done
-pub says_true : (g : Setting) (a : Act) (s : Station) (p : Payload) → speech a s ≡ some p → Does (after_act g a s) p
+pub says_true : (g : Rules) (a : Act) (s : Station) (p : Payload) → speech a s ≡ some p → Does (after_act g a s) p
 says_true g (opening σ v) s p e =
     let q : prepare σ v ≡ p = cc in subst (λ x. Does (after_act g (opening σ v) s) x) q (adds (s.prepared σ v) σ v)
 says_true g (joining σ v) s p e =
@@ -114,7 +114,7 @@ says_true g (closing σ P) s p e =
 says_true g (deciding b) s p e = cc
 
 -- which it had not done before
-says_new : (g : Setting) (a : Act) (s : Station) (p : Payload) → Applies g s a → speech a s ≡ some p → Does s p → ⊥
+says_new : (g : Rules) (a : Act) (s : Station) (p : Payload) → Applies g s a → speech a s ≡ some p → Does s p → ⊥
 says_new g (opening σ v) s p h e d = let q : p ≡ prepare σ v = cc in cc ((rw q at d), h.3)
 says_new g (joining σ v) s p h e d = let q : p ≡ prepare σ v = cc in cc ((rw q at d), h.3)
 says_new g (admitting σ v) s p h e d =
@@ -127,7 +127,7 @@ says_new g (closing σ P) s p h e d =
 says_new g (deciding b) s p h e d = cc
 
 -- and what it had done, it has done still
-does_still : (g : Setting) (a : Act) (s : Station) (p : Payload) → Does s p → Does (after_act g a s) p
+does_still : (g : Rules) (a : Act) (s : Station) (p : Payload) → Does s p → Does (after_act g a s) p
 does_still g (opening σ v) s (prepare x y) d = or_left (s.prepared x y) (eqb x σ && eqb y v) d
 does_still g (joining σ v) s (prepare x y) d = or_left (s.prepared x y) (eqb x σ && eqb y v) d
 does_still g (admitting σ v) s (propose x y) d = elim (same? x σ) [
@@ -169,12 +169,12 @@ committed_bit g W i s b d e =
     grade_bit (c.set 0) (c.set 1) (c.set 2) b w
 
 pub never_ignored : (g : Setting) (W : World) (j i : ℕ) (s : Station) (p : Payload) → Own g j → Good g W j s → Does s p
-    → is_heeded (size g) (stages g) (message j i p) ≡ true
+    → is_heeded (size g.rules) (stages g.rules) (message j i p) ≡ true
 never_ignored g W j i s (prepare σ v) o d h =
     let k = d.prepared σ v h in
-    and_both (lt-ltb j (size g) o.0) (counts 1 v σ (stages g) (inl refl) k.2 k.1)
+    and_both (lt-ltb j (size g.rules) o.0) (counts 1 v σ (stages g.rules) (inl refl) k.2 k.1)
 never_ignored g W j i s (propose σ v) o d h =
     let k = d.admitted σ v (d.first_admitted σ v h) in
-    and_both (lt-ltb j (size g) o.0) (counts 2 v σ (stages g) (inr refl) k.1 k.0)
+    and_both (lt-ltb j (size g.rules) o.0) (counts 2 v σ (stages g.rules) (inr refl) k.1 k.0)
 never_ignored g W j i s (commit b) o d h =
-    and_both (lt-ltb j (size g) o.0) (bit_counts b (committed_bit g W j s b d h))
+    and_both (lt-ltb j (size g.rules) o.0) (bit_counts b (committed_bit g W j s b d h))

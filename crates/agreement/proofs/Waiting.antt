@@ -1,10 +1,11 @@
 -- What waits on a network: after one message more, and after a station said something to all.
-use Rattle.std.proofs.Common.{◌≡◌, ℕ, zero, suc, ◌+◌, ◌<◌, Bool, true, false, cond, ◌&&◌, ◌⊎◌, List, ◌∷◌, refl, inl, inr, arith}
+use Rattle.std.proofs.Common.{◌≡◌, ℕ, zero, suc, ◌<◌, ◌⊎◌, ◌∷◌, sym, refl, ◌∙◌, subst, inl, inr, arith}
 use Rattle.agreement.specs.declared.message.Message.{Message}
-use Rattle.agreement.specs.Messages.{Same, Indifferent, Payload, prepare, propose, commit, message}
+use Rattle.agreement.specs.Messages.{Payload, prepare, propose, commit, message}
+use Rattle.agreement.specs.Networks.{Network, Enters, Exits}
 use Rattle.agreement.specs.Station.{Setting, Own, is_own}
-use Rattle.agreement.specs.Rig.{broadcast, strays}
-use Rattle.agreement.proofs.Copies.{Waits, waits_head, waits_tail, waits_cases, same_more}
+use Rattle.agreement.specs.Rig.{Says}
+use Rattle.agreement.proofs.Copies.{Waits, waits_head, waits_tail, waits_cases, waits_same}
 use Rattle.agreement.proofs.Sets.{last_or}
 use Rattle.agreement.proofs.Own.{own_is}
 
@@ -18,64 +19,74 @@ message_to i k (prepare σ v) = refl
 message_to i k (propose σ v) = refl
 message_to i k (commit b) = refl
 
--- one message posted
-abbrev pub posted : Bool → Message → List Message → List Message
-posted away m w = cond away w (m ∷ w)
+-- what waits once a message entered
+module _ {N : Type 0} (net : Network N) (m : Message) (w w' : N) (e : Enters net m w w') where
+  pub entering_keeps : (x : Message) → Waits x (net.waiting w) → Waits x (net.waiting w')
+  entering_keeps x h =
+      waits_same x (m ∷ net.waiting w) (net.waiting w') (λ y. sym (e.2 y)) (waits_tail x m (net.waiting w) h)
 
-posted_keeps : (away : Bool) (x m : Message) (w : List Message) → Waits x w → Waits x (posted away m w)
-posted_keeps true x m w h = h
-posted_keeps false x m w h = waits_tail x m w h
+  pub entering_new : (x : Message) → Waits x (net.waiting w') → (x ≡ m) ⊎ Waits x (net.waiting w)
+  entering_new x h = waits_cases x m (net.waiting w) (waits_same x (net.waiting w') (m ∷ net.waiting w) e.2 h)
 
-posted_cases : (away : Bool) (x m : Message) (w : List Message) → Waits x (posted away m w) → (x ≡ m) ⊎ Waits x w
-posted_cases true x m w h = inr h
-posted_cases false x m w h = waits_cases x m w h
+  entered_waits : Waits m (net.waiting w')
+  entered_waits = waits_same m (m ∷ net.waiting w) (net.waiting w') (λ y. sym (e.2 y)) (waits_head m (net.waiting w))
 
-posted_waits : (away : Bool) (m : Message) (w : List Message) → away ≡ false → Waits m (posted away m w)
-posted_waits true m w e = cc
-posted_waits false m w e = waits_head m w
+-- and before one exited
+module _ {N : Type 0} (net : Network N) (h : ℕ) (m : Message) (w w' : N) (e : Exits net h m w w') where
+  pub exiting_waits : Waits m (net.waiting w)
+  exiting_waits = waits_same m (m ∷ net.waiting w') (net.waiting w) (λ y. sym (e.2 y)) (waits_head m (net.waiting w'))
 
-none_away : (a b : Bool) (m : ℕ) → m + cond (a && b) 1 0 ≡ 0 → a ≡ true → b ≡ false
-none_away a b m e h = grind arith
+  pub exiting_old : (x : Message) → Waits x (net.waiting w') → Waits x (net.waiting w)
+  exiting_old x u = waits_same x (m ∷ net.waiting w') (net.waiting w) (λ y. sym (e.2 y)) (waits_tail x m (net.waiting w') u)
+
+  pub exiting_keeps : (x : Message) → Waits x (net.waiting w) → (x ≡ m) ⊎ Waits x (net.waiting w')
+  exiting_keeps x u = waits_cases x m (net.waiting w') (waits_same x (net.waiting w) (m ∷ net.waiting w') e.2 u)
 
 -- a payload said to the stations below k
-module _ (g : Setting) (i : ℕ) (p : Payload) (w : List Message) where
-  pub broadcast_keeps : (k : ℕ) (x : Message) → Waits x w → Waits x (broadcast g i p k w)
-  broadcast_keeps zero x h = h
-  broadcast_keeps (suc k) x h =
-      posted_keeps (g.turns_away (broadcast g i p k w) (message i k p)) x (message i k p) (broadcast g i p k w)
-      (broadcast_keeps k x h)
-
-  pub broadcast_new : (k : ℕ) (x : Message) → Waits x (broadcast g i p k w)
-      → Waits x w ⊎ ((a : ℕ) × (a < k) × (x ≡ message i a p))
-  broadcast_new zero x h = inl h
-  broadcast_new (suc k) x h =
-      elim (posted_cases (g.turns_away (broadcast g i p k w) (message i k p)) x (message i k p) (broadcast g i p k w) h) [
-        | inl e ↦ inr (k, omega arith, e)
-        | inr u ↦ elim (broadcast_new k x u) [ inl v ↦ inl v | inr v ↦ inr (v.0, omega (arith, v.1), v.2) ]
+module _ {N : Type 0} (net : Network N) (g : Setting) (i : ℕ) (p : Payload) (w : N) where
+  pub saying_keeps : (k : ℕ) (w' : N) (away : ℕ) → Says net (is_own g) i p k w w' away → (x : Message) → Waits x (net.waiting w)
+      → Waits x (net.waiting w')
+  saying_keeps zero w' away s x h = subst (λ (v : N). Waits x (net.waiting v)) (sym s.0) h
+  saying_keeps (suc k) w' away (v, before, s, c) x h =
+      let u = saying_keeps k v before s x h in
+      elim c [
+        | inl e ↦ entering_keeps net (message i k p) v w' e.0 x u
+        | inr e ↦ subst (λ (t : N). Waits x (net.waiting t)) (sym e.1) u
       ]
 
-  -- none strayed, so each own station's message waits
-  pub broadcast_all : (k : ℕ) → strays g i p k w ≡ 0 → (a : ℕ) → a < k → Own g a
-      → Waits (message i a p) (broadcast g i p k w)
-  broadcast_all zero e a h o = absurd (omega arith)
-  broadcast_all (suc k) e a h o = last_or (λ x. Own g x → Waits (message i x p) (broadcast g i p (suc k) w)) k a h
-      (λ l u. posted_keeps (g.turns_away (broadcast g i p k w) (message i k p)) (message i a p) (message i k p)
-      (broadcast g i p k w) (broadcast_all k (omega arith) a l u))
-      (λ u. posted_waits (g.turns_away (broadcast g i p k w) (message i k p)) (message i k p) (broadcast g i p k w)
-      (none_away (is_own g k) (g.turns_away (broadcast g i p k w) (message i k p)) (strays g i p k w) e (own_is g k u))) o
+  pub saying_new : (k : ℕ) (w' : N) (away : ℕ) → Says net (is_own g) i p k w w' away → (x : Message) → Waits x (net.waiting w')
+      → Waits x (net.waiting w) ⊎ ((a : ℕ) × (a < k) × (x ≡ message i a p))
+  saying_new zero w' away s x h = inl (subst (λ (v : N). Waits x (net.waiting v)) s.0 h)
+  saying_new (suc k) w' away (v, before, s, c) x h =
+      let old : Waits x (net.waiting v) → Waits x (net.waiting w) ⊎ ((a : ℕ) × (a < suc k) × (x ≡ message i a p))
+      = λ u. elim (saying_new k v before s x u) [ inl y ↦ inl y | inr y ↦ inr (y.0, omega (arith, y.1), y.2) ] in
+      elim c [
+        | inl e ↦ elim (entering_new net (message i k p) v w' e.0 x h) [
+          | inl z ↦ inr (k, omega arith, z)
+          | inr u ↦ old u
+        ]
+        | inr e ↦ old (subst (λ (t : N). Waits x (net.waiting t)) e.1 h)
+      ]
 
--- a payload said to the stations below k
-same_posted : (b : Bool) (m : Message) (v w : List Message) → Same v w → Same (posted b m v) (posted b m w)
-same_posted true m v w s = s
-same_posted false m v w s = same_more m v (m ∷ v) w (m ∷ w) s (λ x. refl) (λ x. refl)
+  -- none of them was turned away, so each own station's message waits
+  pub saying_all : (k : ℕ) (w' : N) (away : ℕ) → Says net (is_own g) i p k w w' away → away ≡ 0 → (a : ℕ) → a < k → Own g a
+      → Waits (message i a p) (net.waiting w')
+  saying_all zero w' away s z a h o = absurd (omega arith)
+  saying_all (suc k) w' away (v, before, s, c) z a h o = elim c [
+    | inl e ↦ last_or (λ x. Own g x → Waits (message i x p) (net.waiting w')) k a h
+        (λ l u. entering_keeps net (message i k p) v w' e.0 (message i a p) (saying_all k v before s (sym e.1 ∙ z) a l u))
+        (λ u. entered_waits net (message i k p) v w' e.0) o
+    | inr e ↦ last_or (λ x. Own g x → Waits (message i x p) (net.waiting w')) k a h
+        (λ l u. subst (λ (t : N). Waits (message i a p) (net.waiting t)) (sym e.1)
+        (saying_all k v before s (omega (arith, e.2)) a l u))
+        (λ u. let q = rw (own_is g k u) at e.2 in absurd (omega (arith, q))) o
+  ]
 
-pub same_broadcast : (g : Setting) → Indifferent g.turns_away → (i : ℕ) (p : Payload) (k : ℕ) (v w : List Message) → Same v w
-    → Same (broadcast g i p k v) (broadcast g i p k w) × (strays g i p k v ≡ strays g i p k w)
-same_broadcast g n i p zero v w s = (s, refl)
-same_broadcast g n i p (suc k) v w s =
-    let (a, b) = same_broadcast g n i p k v w s in
-    let m = message i k p in
-    let e = n (broadcast g i p k v) (broadcast g i p k w) m a in (
-      rw e (same_posted (g.turns_away (broadcast g i p k w) m) m (broadcast g i p k v) (broadcast g i p k w) a),
-      λ j. b j + cond (is_own g k && e j) 1 0,
-    )
+  -- it leads to one state, and as many are turned away
+  pub saying_once : (k : ℕ) (w' v' : N) (y z : ℕ) → Says net (is_own g) i p k w w' y → Says net (is_own g) i p k w v' z
+      → (w' ≡ v') × (y ≡ z)
+  saying_once zero w' v' y z s t = (s.0 ∙ sym t.0, s.1 ∙ sym t.1)
+  saying_once (suc k) w' v' y z (u, b, s, c) (v, d, t, e) =
+      let q = saying_once k u v b d s t in
+      let x = q.0 in let n = q.1 in
+      grind arith

@@ -1,22 +1,32 @@
 -- Runs of a rig of a single station that opens with 1: one through a stage, step by step, and one to the end.
-use Rattle.std.specs.Prelude.{◌≡◌, Bool, true, false, List, [], ◌∷◌, length, Some as some, None as none, ◌==◌, nat_le}
+use Rattle.std.specs.Prelude.{◌≡◌, ℕ, Bool, true, false, List, [], ◌∷◌, length, drop, slice_get, Some as some, None as none, ◌==◌, nat_le}
 use Rattle.agreement.specs.Families.{Laws}
 use Rattle.agreement.specs.Thresholds.{threshold}
+use Rattle.agreement.specs.declared.message.Message.{Message}
 use Rattle.agreement.specs.Messages.{message, prepare, propose}
+use Rattle.agreement.specs.Networks.{Network, Carries}
 use Rattle.agreement.specs.Station.{Setting, opening, admitting, closing}
 use Rattle.agreement.specs.Rig.{Rig, Opened, Call, turn, deliver, Plays}
 use Rattle.agreement.specs.Rig.{Answer, acted, delivered, refused}
 use Rattle.agreement.specs.Law.{Narrow, OpenAlike, Unopposed, Quiet, Finished}
 
--- A rule that tolerates no guest, one round with this bit as its coin, and a network that holds 4,096 messages.
+-- A network that holds so many messages, and takes off the latest first.
+abbrev pub stack : ℕ → Network (List Message)
+stack holds = record {
+  waiting = λ w. w;
+  turns_away = λ w m. nat_le holds (length w);
+  picks = λ w h. slice_get w 0;
+  cleared = λ w. [];
+  posted = λ w m. m ∷ w;
+  taken = λ w h. drop 1 w;
+}
+
+-- A rule that tolerates no guest, and one round with this bit as its coin.
 abbrev pub one_station : Bool → Setting
 one_station bit = record {
-  rule = threshold 1 0 0;
-  rounds = 1;
+  rules = record { rule = threshold 1 0 0; rounds = 1; coin = λ _. bit };
   guest = λ _. false;
   opens = λ i. i == 0;
-  coin = λ _. bit;
-  turns_away = λ w m. nat_le 4096 (length w);
 }
 
 -- It prepares 1, hears that, admits and proposes 1, has nothing to do until it hears that, and closes stage 0 with {1}.
@@ -34,13 +44,14 @@ six_answers =
     ∷ acted 0 (closing 0 (λ v. v == 1))
     ∷ []
 
--- Under a lawful rule these calls with these answers lead to stage 1, undecided, with nothing missing.
+-- Under a lawful rule and over a network that carries messages these calls with these answers lead to stage 1, undecided, with nothing missing.
 pub record SingleRun : Type 0 where
   pub lawful : Laws (threshold 1 0 0)
-  pub start : Rig
-  pub end : Rig
-  pub opened : Opened (one_station false) start
-  pub plays : Plays (one_station false) six_calls six_answers start end
+  pub carries : Carries (stack 4096) (λ _. true)
+  pub start : Rig (List Message)
+  pub end : Rig (List Message)
+  pub opened : Opened (stack 4096) (one_station false) [] start
+  pub plays : Plays (stack 4096) (one_station false) six_calls six_answers start end
   pub stage : (end.station 0).stage ≡ 1
   pub undecided : (end.station 0).decision ≡ none
   pub none_missing : end.missing ≡ 0
@@ -50,14 +61,14 @@ pub record SingleRun : Type 0 where
 pub record QuietRun : Type 0 where
   pub calls : List Call
   pub answers : List Answer
-  pub start : Rig
-  pub end : Rig
-  pub opened : Opened (one_station true) start
-  pub plays : Plays (one_station true) calls answers start end
+  pub start : Rig (List Message)
+  pub end : Rig (List Message)
+  pub opened : Opened (stack 4096) (one_station true) [] start
+  pub plays : Plays (stack 4096) (one_station true) calls answers start end
   pub narrow : Narrow (one_station true)
   pub alike : OpenAlike (one_station true) true
   pub unopposed : Unopposed (one_station true) 0 end
-  pub quiet : Quiet (one_station true) end
+  pub quiet : Quiet (stack 4096) (one_station true) end
   pub none_missing : end.missing ≡ 0
   pub finished : Finished (one_station true) end
   pub decided : (end.station 0).decision ≡ some 1

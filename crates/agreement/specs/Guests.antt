@@ -1,23 +1,21 @@
 -- A run of two own stations and a guest on a small network: messages that are ignored, losses, repeats, and every refusal
 -- but 13.
-use Rattle.std.specs.Prelude.{◌≡◌, ℕ, Bool, true, false, not, List, [], ◌∷◌, ◌++◌, length, map, Some as some, ◌==◌, nat_le}
+use Rattle.std.specs.Prelude.{◌≡◌, ℕ, Bool, true, false, not, List, [], ◌∷◌, ◌++◌, map, Some as some, ◌==◌}
 use Rattle.agreement.specs.declared.message.Message.{Message}
 use Rattle.agreement.specs.Families.{Laws}
 use Rattle.agreement.specs.Thresholds.{threshold}
 use Rattle.agreement.specs.Station.{Setting, fresh_station, opening}
 use Rattle.agreement.specs.Rig.{Rig, Opened, Call, turn, deliver, lose, send, repeat, Plays}
+use Rattle.agreement.specs.Example.{stack}
 use Rattle.agreement.specs.Rig.{Answer, acted, delivered, sent, lost, repeated, refused}
 
 -- Any one of three stations may be a guest in the wide sense, none in the narrow. Station 2 is one; all but station 1 open
--- with 1; and the network holds three messages.
+-- with 1.
 abbrev pub three_stations : Setting
 three_stations = record {
-  rule = threshold 3 1 0;
-  rounds = 1;
+  rules = record { rule = threshold 3 1 0; rounds = 1; coin = λ _. false };
   guest = λ i. i == 2;
   opens = λ i. not (i == 1);
-  coin = λ _. false;
-  turns_away = λ w m. nat_le 3 (length w);
 }
 
 -- A message: its sender, addressee, kind, stage and value.
@@ -80,13 +78,13 @@ crowded_network =
 -- turned away and one lost. The guest's own bit and messages left no trace at the guest.
 pub record GuestRun : Type 0 where
   pub lawful : Laws (threshold 3 1 0)
-  pub start : Rig
-  pub end : Rig
-  pub opened : Opened three_stations start
+  pub start : Rig (List Message)
+  pub end : Rig (List Message)
+  pub opened : Opened (stack 3) three_stations [] start
   pub plays :
       let script = refusals ++ guest_messages ++ crowded_network in
-      Plays three_stations (map (λ x. x.0) script) (map (λ x. x.1) script) start end
-  pub waiting : end.waiting ≡ []
+      Plays (stack 3) three_stations (map (λ x. x.0) script) (map (λ x. x.1) script) start end
+  pub waiting : end.network ≡ []
   pub last : end.last ≡ some to_itself
   pub posted : end.posted ≡ 3
   pub missing : end.missing ≡ 2

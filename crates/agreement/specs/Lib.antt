@@ -3,10 +3,12 @@ pub mod Families
 pub mod Quorums
 pub mod Thresholds
 pub mod Messages
+pub mod Networks
 pub mod Station
 pub mod Rig
 pub mod Said
 pub mod Law
 pub mod Theorems
+pub mod Exact
 pub mod Example
 pub mod Guests

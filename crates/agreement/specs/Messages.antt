@@ -16,10 +16,6 @@ copies m xs = count_by (message_eq m) xs
 abbrev pub Same : List Message → List Message → Type 0
 Same xs ys = (m : Message) → copies m xs ≡ copies m ys
 
--- Which messages are turned away goes by what waits, and not by its order.
-abbrev pub Indifferent : (List Message → Message → Bool) → Type 0
-Indifferent turns_away = (v w : List Message) (m : Message) → Same v w → turns_away v m ≡ turns_away w m
-
 -- What a station says to all: that it prepares or proposes a value in a stage, or that it commits a bit.
 pub data Payload : Type 0 where
   prepare propose : ℕ → ℕ → Payload

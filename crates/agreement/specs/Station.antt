@@ -1,39 +1,43 @@
 -- One own station: what it has heard and done, which act is due, and what an act does.
-use Rattle.std.specs.Prelude.{◌≡◌, ℕ, ◌+◌, ◌-◌, ◌*◌, ◌/◌, ◌%◌, ◌<◌, ◌≤◌, Bool, true, false, if◌then◌else◌, not, ◌&&◌, ◌||◌, ◌⊎◌, ◌↔◌, List, Some as some, None as none, Option, option_map, is_none, unwrap_or, ◌==◌, nat_le, nat_lt}
+use Rattle.std.specs.Prelude.{◌≡◌, ℕ, ◌+◌, ◌-◌, ◌*◌, ◌/◌, ◌%◌, ◌<◌, ◌≤◌, Bool, true, false, if◌then◌else◌, not, ◌&&◌, ◌||◌, ◌⊎◌, ◌↔◌, Some as some, None as none, Option, option_map, is_none, unwrap_or, ◌==◌, nat_le, nat_lt}
 use Rattle.std.specs.Option.{option_or, option_map_or}
 use Rattle.agreement.specs.declared.message.Message.{Message}
 use Rattle.agreement.specs.Sets.{Set}
 use Rattle.agreement.specs.Families.{Families, Blocking, Quorum}
 use Rattle.agreement.specs.Messages.{Payload, prepare, propose, commit}
 
--- What a rig is opened with.
-pub record Setting : Type 0 where
+-- What stations go by.
+pub record Rules : Type 0 where
   pub rule : Families  -- the fault rule
   pub rounds : ℕ  -- how many rounds
-  pub guest : Set  -- which stations are guests
-  pub opens : Set  -- which stations open with 1
   pub coin : ℕ → Bool  -- the coin's bit for each round
-  pub turns_away : List Message → Message → Bool  -- whether the network turns a message away, given what waits
 
 -- How many stations there are, numbered from 0.
-abbrev pub size : Setting → ℕ
+abbrev pub size : Rules → ℕ
 size g = g.rule.n
 
 -- How many stages: stage σ is quarter σ % 4 of round σ / 4; a station at stage `stages g` has finished.
-abbrev pub stages : Setting → ℕ
+abbrev pub stages : Rules → ℕ
 stages g = 4 * g.rounds
+
+-- What a rig is opened with.
+pub record Setting : Type 0 where
+  pub rules : Rules  -- what its stations go by
+  pub open rules use *
+  pub guest : Set  -- which stations are guests
+  pub opens : Set  -- which stations open with 1
 
 -- An own station of the rig: it follows the rules.
 abbrev pub Own : Setting → ℕ → Type 0
-Own g i = (i < size g) × (g.guest i ≡ false)
+Own g i = (i < size g.rules) × (g.guest i ≡ false)
 
 -- A guest of the rig: it may send anything to anyone.
 abbrev pub Guest : Setting → ℕ → Type 0
-Guest g i = (i < size g) × (g.guest i ≡ true)
+Guest g i = (i < size g.rules) × (g.guest i ≡ true)
 
 -- Whether a station is an own station of the rig.
 abbrev pub is_own : Setting → ℕ → Bool
-is_own g i = nat_lt i (size g) && not (g.guest i)
+is_own g i = nat_lt i (size g.rules) && not (g.guest i)
 
 -- A bit as a value. There is a third value, blank, which is 2.
 abbrev pub bit : Bool → ℕ
@@ -98,7 +102,7 @@ abbrev pub proposers : Station → ℕ → (ℕ → Bool) → Set
 proposers s σ P j = option_map_or P (s.proposal σ j) false
 
 -- P holds exactly the admitted values that are some station's recorded proposal in the stage.
-abbrev pub ProposalSet : Setting → Station → ℕ → (ℕ → Bool) → Type 0
+abbrev pub ProposalSet : Rules → Station → ℕ → (ℕ → Bool) → Type 0
 ProposalSet g s σ P =
     (v : ℕ) → (P v ≡ true) ↔ ((s.admitted σ v ≡ true) × ((j : ℕ) × (j < size g) × (s.proposal σ j ≡ some v)))
 
@@ -109,7 +113,7 @@ pub data Act : Type 0 where
   deciding : ℕ → Act  -- a bit
 
 -- When an act applies.
-abbrev pub Applies : Setting → Station → Act → Type 0
+abbrev pub Applies : Rules → Station → Act → Type 0
 Applies g s (opening σ v) = (σ ≡ s.stage) × (σ < stages g) × (v ≡ s.input σ) × (s.prepared σ v ≡ false)
 Applies g s (joining σ v) =
     (σ ≤ s.stage) × (σ < stages g) × (v ≤ 2) × (s.prepared σ v ≡ false) × Blocking g.rule (s.preparers σ v)
@@ -120,7 +124,7 @@ Applies g s (closing σ P) =
 Applies g s (deciding b) = (b ≤ 1) × (s.decision ≡ none) × Blocking g.rule (s.committers b)
 
 -- No act applies.
-abbrev pub Idle : Setting → Station → Type 0
+abbrev pub Idle : Rules → Station → Type 0
 Idle g s = (a : Act) → Applies g s a → ⊥
 
 -- An act's place in the order of trying: 1 for rule 5, which comes last, else 0; its stage; its rule; its value or 0.
@@ -138,7 +142,7 @@ Before a b =
     (x.0 < y.0) ⊎ ((x.0 ≡ y.0) × ((x.1 < y.1) ⊎ ((x.1 ≡ y.1) × ((x.2 < y.2) ⊎ ((x.2 ≡ y.2) × (x.3 < y.3))))))
 
 -- The act that is due: it applies, and none before it does.
-abbrev pub Due : Setting → Station → Act → Type 0
+abbrev pub Due : Rules → Station → Act → Type 0
 Due g s a = Applies g s a × ((b : Act) → Before b a → Applies g s b → ⊥)
 
 -- The grading of a set by what it holds of 0, 1 and blank: {b} is (b, 2), {b, blank} is (b, 1), any other is (none, 0).
@@ -161,7 +165,7 @@ bit_above_zero x d = if x.1 == 0 then d else unwrap_or x.0 d
 
 -- The input after stage σ closed with P. After quarters 0 and 2: b of {b}, else blank. After quarter 1: the bit at grade 2,
 -- else the coin. After quarter 3: the bit above grade 0, else what was held, the input of quarter 2.
-abbrev pub next_input : Setting → ℕ → (ℕ → Bool) → ℕ → ℕ
+abbrev pub next_input : Rules → ℕ → (ℕ → Bool) → ℕ → ℕ
 next_input g σ P held =
     if σ % 2 == 0 then bit_at_two (grading_of P) 2
     else if σ % 4 == 1 then bit_at_two (grading_of P) (bit (g.coin (σ / 4)))
@@ -184,7 +188,7 @@ abbrev pub with_prepared : ℕ → ℕ → Station → Station
 with_prepared σ v s = record s { prepared = λ x y. s.prepared x y || (x == σ && y == v) }
 
 -- What an act does to its station.
-abbrev pub after_act : Setting → Act → Station → Station
+abbrev pub after_act : Rules → Act → Station → Station
 after_act g (opening σ v) s = with_prepared σ v s
 after_act g (joining σ v) s = with_prepared σ v s
 after_act g (admitting σ v) s = record s {

@@ -1,28 +1,29 @@
 -- What else is proved of stations and runs.
-use Rattle.std.specs.Prelude.{◌≡◌, ◌≢◌, ℕ, ◌+◌, ◌*◌, ◌^◌, ◌<◌, ◌≤◌, Bool, true, false, if◌then◌else◌, ◌⊎◌, ◌↔◌, List, map, Some as some, None as none, Option, ◌==◌}
+use Rattle.std.specs.Prelude.{◌≡◌, ◌≢◌, ℕ, ◌+◌, ◌*◌, ◌^◌, ◌<◌, ◌≤◌, Bool, true, false, if◌then◌else◌, ◌⊎◌, ◌↔◌, List, Some as some, None as none, Option, ◌==◌}
 use Rattle.std.specs.Option.{option_or}
 use Rattle.agreement.specs.declared.message.Message.{Message}
-use Rattle.agreement.specs.Messages.{copies, Same, Indifferent, Payload, prepare, propose, commit}
+use Rattle.agreement.specs.Messages.{copies, Payload, prepare, propose, commit}
+use Rattle.agreement.specs.Networks.{Network}
 use Rattle.agreement.specs.Families.{Blocking, Quorum}
-use Rattle.agreement.specs.Station.{Setting, size, stages, Own, Station, fresh_station, proposers, Idle, Applies, Before, Due, after_act, speech}
+use Rattle.agreement.specs.Station.{Rules, Setting, size, stages, Own, Station, fresh_station, proposers, Idle, Applies, Before, Due, after_act, speech}
 use Rattle.agreement.specs.Station.{Act, opening, joining, admitting, closing, deciding}
 use Rattle.agreement.specs.Station.{bit, Grading, grading_of, bit_at_two, bit_above_zero}
-use Rattle.agreement.specs.Rig.{Rig, Opened, Call, Step, Plays, capped_count}
-use Rattle.agreement.specs.Rig.{Answer, delivered, lost}
+use Rattle.agreement.specs.Rig.{Rig, Opened, Call, Answer, Plays, capped_count}
+use Rattle.agreement.specs.Said.{said_by_all}
 use Rattle.agreement.specs.Law.{history, Gives}
 
 -- At most one act is due.
 abbrev pub OneActDue : Type 0
-OneActDue = (g : Setting) (s : Station) (a b : Act) → Due g s a → Due g s b → a ≡ b
+OneActDue = (g : Rules) (s : Station) (a b : Act) → Due g s a → Due g s b → a ≡ b
 
 -- Some act is due, or none applies.
 abbrev pub DueOrIdle : Type 0
-DueOrIdle = (g : Setting) (s : Station) → ((a : Act) × Due g s a) ⊎ Idle g s
+DueOrIdle = (g : Rules) (s : Station) → ((a : Act) × Due g s a) ⊎ Idle g s
 
 -- A station has done all that the rules ask of it: it has prepared the input of its stage; in each stage up to that one it
 -- has prepared what a blocking set prepared, and admitted what a quorum prepared; those who proposed what it admitted in
 -- its stage are no quorum yet; and it has decided, or no blocking set committed a bit.
-pub record Served (g : Setting) (s : Station) : Type 0 where
+pub record Served (g : Rules) (s : Station) : Type 0 where
   pub opened : s.stage < stages g → s.prepared s.stage (s.input s.stage) ≡ true
   pub joined :
       (σ v : ℕ) → σ ≤ s.stage → σ < stages g → v ≤ 2 → Blocking g.rule (s.preparers σ v) → s.prepared σ v ≡ true
@@ -33,7 +34,7 @@ pub record Served (g : Setting) (s : Station) : Type 0 where
 
 -- No act applies exactly at such a station.
 abbrev pub IdleIsServed : Type 0
-IdleIsServed = (g : Setting) (s : Station) → Idle g s ↔ Served g s
+IdleIsServed = (g : Rules) (s : Station) → Idle g s ↔ Served g s
 
 -- The order in which acts are tried, link by link. An earlier stage goes first; in a stage opening, joining by value,
 -- admitting by value, closing; deciding comes after everything.
@@ -60,13 +61,13 @@ pub record Gradings : Type 0 where
 
 -- Closing stage σ with set P makes the next stage the current one, and leaves this input there, this grading of σ and this
 -- commitment.
-abbrev pub Leaves : Setting → Station → ℕ → (ℕ → Bool) → ℕ → Option Grading → Option ℕ → Type 0
+abbrev pub Leaves : Rules → Station → ℕ → (ℕ → Bool) → ℕ → Option Grading → Option ℕ → Type 0
 Leaves g s σ P next grading committed =
     let t = after_act g (closing σ P) s in
     (t.stage ≡ σ + 1) × (t.input (σ + 1) ≡ next) × (t.grading σ ≡ grading) × (t.committed ≡ committed)
 
 -- What closing does in each quarter of round ρ.
-pub record Closings (g : Setting) (s : Station) (ρ : ℕ) (P : ℕ → Bool) (x : Grading) : Type 0 where
+pub record Closings (g : Rules) (s : Station) (ρ : ℕ) (P : ℕ → Bool) (x : Grading) : Type 0 where
   pub quarter_0 : Leaves g s (4 * ρ) P (bit_at_two x 2) none s.committed
   pub quarter_1 : Leaves g s (4 * ρ + 1) P (bit_at_two x (bit (g.coin ρ))) (some x) s.committed
   pub quarter_2 : Leaves g s (4 * ρ + 2) P (bit_at_two x 2) none s.committed
@@ -76,7 +77,7 @@ pub record Closings (g : Setting) (s : Station) (ρ : ℕ) (P : ℕ → Bool) (x
 
 -- So it is at every station, in every round and with every set.
 abbrev pub ClosingsByQuarter : Type 0
-ClosingsByQuarter = (g : Setting) (s : Station) (ρ : ℕ) (P : ℕ → Bool) → Closings g s ρ P (grading_of P)
+ClosingsByQuarter = (g : Rules) (s : Station) (ρ : ℕ) (P : ℕ → Bool) → Closings g s ρ P (grading_of P)
 
 -- A station has prepared or proposed the value in the stage, or committed the bit.
 abbrev pub Does : Station → Payload → Type 0
@@ -88,92 +89,70 @@ Does s (commit b) = s.committed ≡ some b
 -- after it, and nothing else is.
 abbrev pub SaidOnce : Type 0
 SaidOnce =
-    (g : Setting) (s : Station) (a : Act) (p : Payload) → Applies g s a
+    (g : Rules) (s : Station) (a : Act) (p : Payload) → Applies g s a
     → (speech a s ≡ some p → Does s p → ⊥)
     × (Does (after_act g a s) p ↔ (Does s p ⊎ (speech a s ≡ some p)))
 
--- Of every run on an opened rig: P holds of the answers and the rig that it came to.
-abbrev pub Always : (Setting → List Answer → Rig → Type 0) → Type 0
-Always P =
-    (g : Setting) (calls : List Call) (answers : List Answer) (o r : Rig)
-    → Opened g o → Plays g calls answers o r → P g answers r
+module _ (N : Type 0) where
+  -- Of every run on an opened rig, over a network with these states: P holds of it and of the rig that it came to.
+  abbrev pub Always : (Network N → Setting → List Call → List Answer → Rig N → Type 0) → Type 0
+  Always P =
+      (net : Network N) (g : Setting) (w : N) (calls : List Call) (answers : List Answer) (o r : Rig N)
+      → Opened net g w o → Plays net g calls answers o r → P net g calls answers r
 
--- An own station is in the state that the rules give for its opening bit and its history.
-abbrev pub StationsFollowRules : Type 0
-StationsFollowRules =
-    Always (λ g answers r. (i : ℕ) → Own g i → Gives g (fresh_station (g.opens i)) (history i answers) (r.station i))
+  -- An own station is in the state that the rules give for its opening bit and its history.
+  abbrev pub StationsFollowRules : Type 0
+  StationsFollowRules =
+      Always (λ net g calls answers r. (i : ℕ) → Own g i
+      → Gives g.rules (fresh_station (g.opens i)) (history i calls answers) (r.station i))
 
--- An own station has prepared its input in every stage that it has closed.
-abbrev pub OpensBeforeClosing : Type 0
-OpensBeforeClosing =
-    Always (λ g answers r. (i σ : ℕ) → Own g i → σ < (r.station i).stage
-    → (r.station i).prepared σ ((r.station i).input σ) ≡ true)
+  -- An own station has prepared its input in every stage that it has closed.
+  abbrev pub OpensBeforeClosing : Type 0
+  OpensBeforeClosing =
+      Always (λ net g calls answers r. (i σ : ℕ) → Own g i → σ < (r.station i).stage
+      → (r.station i).prepared σ ((r.station i).input σ) ≡ true)
 
--- An own station has done nothing in a stage ahead of its own.
-abbrev pub NothingAhead : Type 0
-NothingAhead =
-    Always (λ g answers r. (i σ v : ℕ) → Own g i → (r.station i).stage < σ
-    → ((r.station i).prepared σ v ≡ false) × ((r.station i).admitted σ v ≡ false)
-    × ((r.station i).proposed σ ≡ none) × ((r.station i).grading σ ≡ none))
+  -- An own station has done nothing in a stage ahead of its own.
+  abbrev pub NothingAhead : Type 0
+  NothingAhead =
+      Always (λ net g calls answers r. (i σ v : ℕ) → Own g i → (r.station i).stage < σ
+      → ((r.station i).prepared σ v ≡ false) × ((r.station i).admitted σ v ≡ false)
+      × ((r.station i).proposed σ ≡ none) × ((r.station i).grading σ ≡ none))
 
--- A decision, once made, is never changed by any later calls.
-abbrev pub DecisionsLast : Type 0
-DecisionsLast =
-    (g : Setting) (calls : List Call) (answers : List Answer) (r r' : Rig) → Plays g calls answers r r'
-    → (i b : ℕ) → (r.station i).decision ≡ some b → (r'.station i).decision ≡ some b
+  -- A decision, once made, is never changed by any later calls.
+  abbrev pub DecisionsLast : Type 0
+  DecisionsLast =
+      (net : Network N) (g : Setting) (calls : List Call) (answers : List Answer) (r r' : Rig N)
+      → Plays net g calls answers r r'
+      → (i b : ℕ) → (r.station i).decision ≡ some b → (r'.station i).decision ≡ some b
 
--- What waits goes from a station of the rig to one of the rig.
-abbrev pub MessagesStayWithin : Type 0
-MessagesStayWithin =
-    Always (λ g answers r. (m : Message) → 0 < copies m r.waiting → (m.sender < size g) × (m.addressee < size g))
+  -- What waits goes from a station of the rig to one of the rig.
+  abbrev pub MessagesStayWithin : Type 0
+  MessagesStayWithin =
+      Always (λ net g calls answers r. (m : Message) → 0 < copies m (net.waiting r.network)
+      → (m.sender < size g.rules) × (m.addressee < size g.rules))
 
--- Turns hand no more than n² × (16 × rounds + 1) messages to the network.
-abbrev pub PostedBounded : Type 0
-PostedBounded = Always (λ g answers r. r.posted ≤ size g ^ 2 * (16 * g.rounds + 1))
+  -- Turns handed to the network just n times what the stations have said, to n stations each.
+  abbrev pub PostedIsSaid : Type 0
+  PostedIsSaid =
+      Always (λ net g calls answers r.
+      r.posted ≡ size g.rules * said_by_all (size g.rules) (stages g.rules) r.station)
+
+  -- Turns hand no more than n² × (16 × rounds + 1) messages to the network.
+  abbrev pub PostedBounded : Type 0
+  PostedBounded = Always (λ net g calls answers r. r.posted ≤ size g.rules ^ 2 * (16 * g.rounds + 1))
+
+  -- No run's missing count goes past the largest number of 32 bits.
+  abbrev pub MissingFits : Type 0
+  MissingFits = Always (λ net g calls answers r. r.missing ≤ 4294967295)
+
+  -- And no calls make it fall.
+  abbrev pub MissingGrows : Type 0
+  MissingGrows =
+      (net : Network N) (g : Setting) (calls : List Call) (answers : List Answer) (r r' : Rig N)
+      → Plays net g calls answers r r' → r.missing ≤ 4294967295 → r.missing ≤ r'.missing
 
 -- The cap changes no count up to the largest number of 32 bits, and makes every larger one that.
 abbrev pub CapAt32Bits : Type 0
 CapAt32Bits =
     (m : ℕ) → (m ≤ 4294967295 → capped_count m ≡ m) × (4294967295 ≤ m → capped_count m ≡ 4294967295)
-
--- No run's missing count goes past that number.
-abbrev pub MissingFits : Type 0
-MissingFits = Always (λ g answers r. r.missing ≤ 4294967295)
-
--- And no calls make it fall.
-abbrev pub MissingGrows : Type 0
-MissingGrows =
-    (g : Setting) (calls : List Call) (answers : List Answer) (r r' : Rig) → Plays g calls answers r r'
-    → r.missing ≤ 4294967295 → r.missing ≤ r'.missing
-
--- Every call on any rig has an answer.
-abbrev pub CallsAreAnswered : Type 0
-CallsAreAnswered = (g : Setting) (c : Call) (r : Rig) → (a : Answer) × (r' : Rig) × Step g c a r r'
-
--- Two rigs are alike: the same in the stations that there are and in all else, but for the order of what waits.
-pub record Alike (g : Setting) (r q : Rig) : Type 0 where
-  pub stations : (i : ℕ) → i < size g → r.station i ≡ q.station i
-  pub waiting : Same r.waiting q.waiting
-  pub last : r.last ≡ q.last
-  pub posted : r.posted ≡ q.posted
-  pub missing : r.missing ≡ q.missing
-
--- The message that a call took off the network.
-abbrev pub taken_message : Answer → Option Message
-taken_message (delivered m change) = some m
-taken_message (lost m) = some m
-taken_message other = none
-
--- Only the message that a call takes off is open: alike rigs and the same message give the same answer and alike rigs.
-abbrev pub OnlyTakesAreOpen : Type 0
-OnlyTakesAreOpen =
-    (g : Setting) → Indifferent g.turns_away → (c : Call) (a b : Answer) (r r' q q' : Rig) → Alike g r q
-    → Step g c a r r' → Step g c b q q'
-    → ((m n : Message) → taken_message a ≡ some m → taken_message b ≡ some n → m ≡ n) → (a ≡ b) × Alike g r' q'
-
--- So runs of the same calls in which the same messages were taken off have the same answers and end in alike rigs.
-abbrev pub RunsGoByTakes : Type 0
-RunsGoByTakes =
-    (g : Setting) → Indifferent g.turns_away → (calls : List Call) (answers others : List Answer) (o r p q : Rig)
-    → Opened g o → Opened g p → Plays g calls answers o r → Plays g calls others p q
-    → map taken_message answers ≡ map taken_message others → (answers ≡ others) × Alike g r q

@@ -12,9 +12,11 @@ ghost use Rattle.agreement.specs.Sets.{NumbersAreSets, SetsAreNumbers};
 ghost use Rattle.agreement.specs.Law.{EveryRun};
 ghost use Rattle.agreement.specs.Theorems.{OneActDue, DueOrIdle, IdleIsServed, OrderOfTrying, SaidOnce};
 ghost use Rattle.agreement.specs.Theorems.{Gradings, ClosingsByQuarter, CapAt32Bits, MissingFits, MissingGrows};
-ghost use Rattle.agreement.specs.Theorems.{CallsAreAnswered, OnlyTakesAreOpen, RunsGoByTakes};
+ghost use Rattle.agreement.specs.Exact.{CallsAreAnswered, StepsAreDetermined, RunsAreDetermined};
+ghost use Rattle.agreement.specs.Exact.{HistoriesLeadOn, HistoriesTell};
+ghost use Rattle.agreement.specs.Exact.{OnlyTakesAreOpen, RunsGoByTakes, FreeRunsGoByTakes};
 ghost use Rattle.agreement.specs.Theorems.{StationsFollowRules, OpensBeforeClosing, NothingAhead, DecisionsLast};
-ghost use Rattle.agreement.specs.Theorems.{MessagesStayWithin, PostedBounded};
+ghost use Rattle.agreement.specs.Theorems.{MessagesStayWithin, PostedIsSaid, PostedBounded};
 ghost use Rattle.agreement.specs.Example.{SingleRun, QuietRun};
 ghost use Rattle.agreement.specs.Guests.{GuestRun};
 
@@ -48,33 +50,32 @@ pub fn laws_give_quorums()
 /// wide guests and one opening bit every grading and decision is that bit. In either case a quiet rig with nothing
 /// missing has finished; it has decided in the second case, and in the first where some round's coin was unopposed.
 /// Turns posted at most n² × (16 R + 1) messages.
-#[tactic(auto, using(crate::proofs::EveryRun::every_run))]
-pub fn every_run_keeps_the_law()
-    ensures { EveryRun }
+pub fn every_run_keeps_the_law<N>()
+    ensures { EveryRun N }
 {}
 
 /// After every run an own station is in the state that the rules give for its opening bit, its acts and the messages
 /// that came to it, in their order. No law of the fault rule is needed.
 #[tactic(auto, using(crate::proofs::Histories::stations_follow_rules))]
-pub fn stations_follow_the_rules()
-    ensures { StationsFollowRules }
+pub fn stations_follow_the_rules<N>()
+    ensures { StationsFollowRules N }
 {}
 
 /// A station's decision, once made, stays through whatever calls follow.
 #[tactic(auto, using(crate::proofs::Lasting::decisions_last))]
-pub fn decisions_never_change()
-    ensures { DecisionsLast }
+pub fn decisions_never_change<N>()
+    ensures { DecisionsLast N }
 {}
 
 /// Opening comes before closing: after every run an own station has prepared its input in each stage that it has closed.
 #[tactic(auto, using(crate::proofs::Lasting::opens_before_closing))]
-pub fn stations_open_before_they_close()
-    ensures { OpensBeforeClosing }
+pub fn stations_open_before_they_close<N>()
+    ensures { OpensBeforeClosing N }
 {}
 
 /// After every run an own station has done nothing in a stage ahead of its own: prepared, admitted, proposed or graded.
-pub fn stations_do_nothing_ahead()
-    ensures { NothingAhead }
+pub fn stations_do_nothing_ahead<N>()
+    ensures { NothingAhead N }
 {}
 
 /// At most one act is due at a station.
@@ -114,36 +115,55 @@ pub fn closing_goes_by_set_and_quarter()
 /// The count of missing messages never falls and never goes past the largest number of 32 bits; below that the cap changes
 /// nothing.
 #[tactic(auto, using(crate::proofs::Missing::missing_fits, crate::proofs::Missing::missing_grows))]
-pub fn missing_stops_at_32_bits()
+pub fn missing_stops_at_32_bits<N>()
     ensures cap { CapAt32Bits }
-    ensures never_past { MissingFits }
-    ensures never_less { MissingGrows }
+    ensures never_past { MissingFits N }
+    ensures never_less { MissingGrows N }
 {}
 
-/// Every call on any rig has an answer: it is refused with a number or done.
-#[tactic(auto, using(crate::proofs::Exact::calls_are_answered))]
-pub fn every_call_is_answered()
-    ensures { CallsAreAnswered }
+/// Every call on any rig has an answer, over a network that carries messages: it is refused with a number or done.
+#[tactic(auto, using(crate::proofs::Answered::calls_are_answered))]
+pub fn every_call_is_answered<N>()
+    ensures { CallsAreAnswered N }
 {}
 
-/// Only the message that a delivery or a loss takes off the network is open, if the network goes by what waits and not
-/// by its order: everything else of an answer, and of the rig after it up to the order of what waits, is determined, and
-/// so is a whole run.
-#[tactic(auto, using(crate::proofs::Exact::only_takes_are_open, crate::proofs::Exact::runs_go_by_takes))]
-pub fn only_takes_are_open()
-    ensures of_a_step { OnlyTakesAreOpen }
-    ensures of_a_run { RunsGoByTakes }
+/// A call's answer, and the rig after it, are determined by the rig before it, its network's state included. So is a whole
+/// run by what its rig was opened with and over.
+#[tactic(auto, using(crate::proofs::Exact::steps_are_determined, crate::proofs::Exact::runs_are_determined))]
+pub fn calls_are_determined<N>()
+    ensures of_a_step { StepsAreDetermined N }
+    ensures of_a_run { RunsAreDetermined N }
+{}
+
+/// An own station's state is a function of its opening bit, its turns and the messages that came to it, in their order:
+/// they lead to one state and no other, whatever else happened on its rig, and over whichever network.
+#[tactic(auto, using(crate::proofs::Histories::histories_lead_on, crate::proofs::Histories::histories_tell))]
+pub fn histories_determine_stations<N, M>()
+    ensures one_state { HistoriesLeadOn }
+    ensures in_any_run { HistoriesTell N M }
+{}
+
+/// Over two networks, be they of different kinds, that turn away the same messages where the same messages wait, only the
+/// message that a delivery or a loss takes off is open: runs of the same calls in which the same messages were taken off
+/// have the same answers and end with the same stations and counts. So have, over any two networks, runs in which no
+/// message was turned away.
+pub fn only_takes_are_open<N, M>()
+    ensures of_a_step { OnlyTakesAreOpen N M }
+    ensures of_a_run { RunsGoByTakes N M }
+    ensures of_a_free_run { FreeRunsGoByTakes N M }
 {}
 
 /// After every run, what waits goes from a station of the rig to a station of the rig.
-pub fn messages_stay_within_the_rig()
-    ensures { MessagesStayWithin }
+pub fn messages_stay_within_the_rig<N>()
+    ensures { MessagesStayWithin N }
 {}
 
-/// After every run turns have posted at most n² × (16 R + 1) messages, whatever the fault rule and the guests.
-#[tactic(auto, using(crate::proofs::Cost::posted_bounded))]
-pub fn posted_is_bounded()
-    ensures { PostedBounded }
+/// After every run turns have posted just n messages for each thing that a station said, and so at most n² × (16 R + 1),
+/// whatever the fault rule and the guests.
+#[tactic(auto, using(crate::proofs::Cost::posted_is_said, crate::proofs::Cost::posted_bounded))]
+pub fn posted_is_what_was_said<N>()
+    ensures exactly { PostedIsSaid N }
+    ensures bound { PostedBounded N }
 {}
 
 /// A rig of a single station: its first six calls with their answers, and a run to the end, where it is quiet, finished

@@ -1,2 +1,4 @@
+mod Carrying
+mod Places
 mod Queues
 mod Search

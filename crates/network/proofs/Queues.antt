@@ -1,5 +1,5 @@
 -- The ten queues as messages come and go.
-use Rattle.std.proofs.Common.{◌≡◌, ℕ, zero, suc, ◌+◌, ◌%◌, ◌<◌, ◌≤◌, Bool, cond, eqb, leb, List, [], ◌∷◌, ◌++◌, length, replicate, drop, get_or, set, slice_get, Option, Some, None, IfSome, Result, Ok, Err, is_ok, OnOk, sym, arith, refl, ap, ◌∙◌, inl, inr}
+use Rattle.std.proofs.Common.{◌≡◌, ℕ, zero, suc, ◌+◌, ◌%◌, ◌<◌, ◌≤◌, Bool, false, cond, eqb, leb, List, [], ◌∷◌, ◌++◌, length, replicate, drop, get_or, set, slice_get, Option, Some, None, IfSome, Result, Ok, Err, is_ok, is_err, OnOk, sym, arith, refl, ap, ◌∙◌, inl, inr}
 use Rattle.std.specs.List.{All, sum_by}
 use Rattle.std.proofs.lemmas.List.{get_or-set_same, get_or-set_other, get_or_default, length-set, length-drop}
 use Rattle.std.proofs.lemmas.List.Sums.{sum_by-cons, sum_by-append, sum_by-set, sum_by-le, sum_by_push}
@@ -10,7 +10,8 @@ use Rattle.agreement.specs.Messages.{message_eq, Same}
 use Rattle.network.specs.declared.TurnedAway.{TurnedAway}
 use Rattle.std.proofs.lemmas.List.Elements.{All-drop}
 use Rattle.std.proofs.lemmas.List.Concat.{length-flat_map}
-use Rattle.network.specs.Lanes.{lanes_pick, first_filled, lane_of, in_lane, all_lanes, load, AreLanes}
+use Rattle.agreement.specs.Networks.{Enters, Exits}
+use Rattle.network.specs.Lanes.{lanes_pick, first_filled, lane_of, in_lane, all_lanes, load, ten_lanes, AreLanes}
 
 -- n lanes without a message
 pub all_empty : (lanes : List (List Message)) (n : ℕ) → length lanes ≡ n → All (λ q. q ≡ []) lanes → lanes ≡ replicate n []
@@ -58,36 +59,47 @@ load_in_lane lanes i k h =
     omega (arith, sum_in_lanes f lanes, s, t, own, all)
 
 -- the lane that a place of the list of lanes holds
-place_is : (lanes : List (List Message)) (i : ℕ) (q : List Message) → AreLanes lanes → i < 10 → q ≡ get_or lanes i q
+place_is : (lanes : List (List Message)) (i : ℕ) (q : List Message) → length lanes ≡ 10 → i < 10 → q ≡ get_or lanes i q
     → in_lane lanes i ≡ q
-place_is lanes i q k h e = get_or_default lanes i [] q (rw k.ten h) ∙ sym e
+place_is lanes i q ten h e = get_or_default lanes i [] q (rw ten h) ∙ sym e
 
 -- a lane is full where 40 messages for it wait
 pub full_lane : (lanes : List (List Message)) (m : Message) (q : List Message) (b : Bool) → AreLanes lanes
     → q ≡ get_or lanes (lane_of m) q → b ≡ leb 40 (length q) → b ≡ leb 40 (load (lane_of m) (all_lanes lanes))
 full_lane lanes m q b k e t =
     let h : lane_of m < 10 = omega arith in
-    t ∙ ap (λ (w : List Message). leb 40 (length w)) (sym (place_is lanes (lane_of m) q k h e))
+    t ∙ ap (λ (w : List Message). leb 40 (length w)) (sym (place_is lanes (lane_of m) q k.ten h e))
     ∙ ap (λ n. leb 40 n) (sym (load_in_lane lanes (lane_of m) k h))
 
 -- a sum over all that waits, where lane i changes from q into p
-changed_sums : (lanes : List (List Message)) (i : ℕ) (p q : List Message) → AreLanes lanes → i < 10 → q ≡ get_or lanes i q
+changed_sums : (lanes : List (List Message)) (i : ℕ) (p q : List Message) → length lanes ≡ 10 → i < 10 → q ≡ get_or lanes i q
     → (f : Message → ℕ) → sum_by f (all_lanes (set lanes i p)) + sum_by f q ≡ sum_by f (all_lanes lanes) + sum_by f p
-changed_sums lanes i p q k h e f =
-    let s = sum_by-set (sum_by f) lanes i p q (rw k.ten h) in
+changed_sums lanes i p q ten h e f =
+    let s = sum_by-set (sum_by f) lanes i p q (rw ten h) in
     let t : sum_by f (get_or lanes i q) ≡ sum_by f q = ap (sum_by f) (sym e) in
     omega (arith, sum_in_lanes f (set lanes i p), sum_in_lanes f lanes, s, t)
 
 -- a message more at the end of its lane
-pub put_in_lane : (lanes before : List (List Message)) (i : ℕ) (m : Message) (q p : List Message) (r : Result (Unit {0}) TurnedAway)
-    → i ≡ lane_of m → p ≡ cond (is_ok r) (q ++ m ∷ []) q → q ≡ get_or lanes i q → AreLanes lanes → lanes ≡ before
-    → OnOk r (Same (all_lanes (set lanes i p)) (m ∷ all_lanes before))
-put_in_lane lanes before i m q p (Err e) l t k a w = tt
-put_in_lane lanes before i m q p (Ok u) l t k a w = λ x.
+pub put_in_lane : (lanes before : List (List Message)) (i : ℕ) (m : Message) (q p : List Message) → i ≡ lane_of m
+    → p ≡ q ++ m ∷ [] → q ≡ get_or lanes i q → length lanes ≡ 10 → lanes ≡ before
+    → Same (all_lanes (set lanes i p)) (m ∷ all_lanes before)
+put_in_lane lanes before i m q p l t k ten w = λ x.
     let f : Message → ℕ = λ y. cond (message_eq x y) 1 0 in
-    let s = changed_sums lanes i p q a (omega (arith, l)) k f in
+    let s = changed_sums lanes i p q ten (omega (arith, l)) k f in
     let c : sum_by f p ≡ sum_by f (q ++ m ∷ []) = ap (sum_by f) t in
     rw (← w) (omega (arith, s, c, sum_by_push f q m, copies_more x m (all_lanes lanes)))
+
+pub entered : (lanes before : List (List Message)) (i : ℕ) (m : Message) (q p : List Message) (r : Result (Unit {0}) TurnedAway)
+    → i ≡ lane_of m → p ≡ cond (is_ok r) (q ++ m ∷ []) q → is_err r ≡ leb 40 (length q) → q ≡ get_or lanes i q
+    → AreLanes lanes → lanes ≡ before → OnOk r (Enters ten_lanes m before (set lanes i p))
+entered lanes before i m q p (Err e) l t f k a w = tt
+entered lanes before i m q p (Ok u) l t f k a w =
+    let h : i < 10 = omega (arith, l) in
+    let g : in_lane lanes i ≡ q = place_is lanes i q a.ten h k in (
+      sym (full_lane before m q false (rw (← w) a) (rw (← w, ← l) k) f),
+      rw (← w, ← l, g) (ap (λ (x : List Message). set lanes i x) t),
+      put_in_lane lanes before i m q p l t k a.ten w,
+    )
 
 -- queue i changed into q
 module _ (lanes : List (List Message)) (i : ℕ) (q : List Message) (k : AreLanes lanes) (h : i < 10) where
@@ -108,22 +120,33 @@ module _ (lanes : List (List Message)) (i : ℕ) (q : List Message) (k : AreLane
 pub are_lanes_taken : (lanes : List (List Message)) (i : ℕ) (q p : List Message) → p ≡ drop 1 q → q ≡ get_or lanes i q
     → AreLanes lanes → i < 10 → AreLanes (set lanes i p)
 are_lanes_taken lanes i q p t e k h =
-    let w = place_is lanes i q k h e in
+    let w = place_is lanes i q k.ten h e in
     let short : length q ≤ 40 = rw (← w) (k.fit i) in
     let all : All (λ m. lane_of m ≡ i) q = rw (← w) (k.by_addressee i) in
     rw t (are_lanes_set lanes i (drop 1 q) k h (omega (arith, short, length-drop 1 q)) (All-drop (λ m. lane_of m ≡ i) 1 q all))
 
-pub taken_from_lane : (lanes before : List (List Message)) (i : ℕ) (q p : List Message) (r : Option Message) → p ≡ drop 1 q
-    → r ≡ slice_get q 0 → q ≡ get_or lanes i q → AreLanes lanes → i < 10 → lanes ≡ before
+taken_from_lane : (lanes before : List (List Message)) (i : ℕ) (q p : List Message) (r : Option Message) → p ≡ drop 1 q
+    → r ≡ slice_get q 0 → q ≡ get_or lanes i q → length lanes ≡ 10 → i < 10 → lanes ≡ before
     → IfSome r (λ m. Same (all_lanes before) (m ∷ all_lanes (set lanes i p)))
-taken_from_lane lanes before i q p None t u e k h w = tt
-taken_from_lane lanes before i [] p (Some m) t u e k h w = cc
-taken_from_lane lanes before i (y ∷ q) p (Some m) t u e k h w = λ x.
+taken_from_lane lanes before i q p None t u e ten h w = tt
+taken_from_lane lanes before i [] p (Some m) t u e ten h w = cc
+taken_from_lane lanes before i (y ∷ q) p (Some m) t u e ten h w = λ x.
     let f : Message → ℕ = λ y. cond (message_eq x y) 1 0 in
     let o : m ≡ y = cc in
-    let s = changed_sums lanes i p (y ∷ q) k h e f in
+    let s = changed_sums lanes i p (y ∷ q) ten h e f in
     let c : sum_by f p ≡ sum_by f q = ap (sum_by f) t in
     rw (← w) (rw o (omega (arith, s, c, sum_by-cons f y q, copies_more x y (all_lanes (set lanes i p)))))
+
+pub exited : (lanes before : List (List Message)) (hint i : ℕ) (q p : List Message) (r : Option Message) → p ≡ drop 1 q
+    → r ≡ slice_get q 0 → q ≡ get_or lanes i q → length lanes ≡ 10 → i < 10 → i ≡ first_filled lanes (hint % 10)
+    → lanes ≡ before → IfSome r (λ m. Exits ten_lanes hint m before (set lanes i p))
+exited lanes before hint i q p None t u e ten h f w = tt
+exited lanes before hint i q p (Some m) t u e ten h f w =
+    let g : in_lane lanes i ≡ q = place_is lanes i q ten h e in (
+      rw (← w, ← f, g) (sym u),
+      rw (← w, ← f, g) (ap (λ (x : List Message). set lanes i x) t),
+      taken_from_lane lanes before i q p (Some m) t u e ten h w,
+    )
 
 -- where nothing waits, no lane has a message
 empty_lane : (lanes : List (List Message)) (i : ℕ) → all_lanes lanes ≡ [] → in_lane lanes i ≡ []

@@ -8,7 +8,7 @@ use Rattle.agreement.specs.declared.message.Message.{Message}
 use Rattle.network.specs.Lanes.{in_lane, all_lanes, first_filled}
 
 -- the lanes from lane s on, going round
-rotated : (lanes : List (List Message)) (s k : ℕ) → length lanes ≡ 10 → s < 10 → k < 10
+pub rotated : (lanes : List (List Message)) (s k : ℕ) → length lanes ≡ 10 → s < 10 → k < 10
     → get_or (drop s lanes ++ take s lanes) k [] ≡ in_lane lanes ((s + k) % 10)
 rotated lanes s k ten h l = grind (arith, common_steps)
 

@@ -1,13 +1,9 @@
--- Proved: the bag's capacity keeps the law `Roomy`.
-use Rattle.std.proofs.Common.{nat_le, length, ap, arith}
+-- Proved: a bag keeps the law `Roomy`.
+use Rattle.std.proofs.Common.{List, length, arith}
 use Rattle.std.proofs.lemmas.Bool.{lt-leb}
-use Rattle.agreement.proofs.Copies.{same_length}
-use Rattle.network.specs.Capacities.{Roomy}
-use Rattle.network.specs.Bags.{bag_capacity}
+use Rattle.agreement.specs.declared.message.Message.{Message}
+use Rattle.network.specs.Floors.{Roomy}
+use Rattle.network.specs.Bags.{bag, bag_holds}
 
-pub bag_roomy : Roomy bag_capacity
-bag_roomy = record {
-  at_least_16 = omega arith;
-  below_floor = λ w m h. lt-leb 4096 (length w) h;
-  indifferent = λ v w m s. ap (λ n. nat_le 4096 n) (same_length v w s);
-}
+pub bag_roomy : (w : List Message) → Roomy bag bag_holds w
+bag_roomy w = record { at_least_16 = omega arith; below_floor = λ m h. lt-leb 4096 (length w) h }

@@ -1,8 +1,8 @@
 //! Messages in places.
 
-ghost use Rattle.std.specs.Prelude.{◌≡◌, [], ◌∷◌, ◌++◌, IfSome, IfNone, OnSome, is_err, IfOk, OnOk, OnErr};
-ghost use Rattle.agreement.specs.Messages.{Same};
-ghost use Rattle.network.specs.Bags.{bag_capacity, bag_pick, bag_posted, bag_taken};
+ghost use Rattle.std.specs.Prelude.{◌≡◌, nat_le, [], length, IfSome, IfNone, is_err, IfOk, OnOk, OnErr};
+ghost use Rattle.agreement.specs.Networks.{Enters, Exits};
+ghost use Rattle.network.specs.Bags.{bag, bag_holds, bag_pick};
 
 use crate::{Network, TurnedAway};
 use agreement::Message;
@@ -45,19 +45,11 @@ impl Bag {
 impl Network for Bag {
     ghost use Rattle.network.specs.BagLemmas.{bag_roomy};
 
-    ghost waiting = { λ b. b };
+    ghost net = { bag };
 
-    ghost capacity = { λ b. bag_capacity };
+    ghost floor = { λ b. bag_holds };
 
-    ghost picks = { bag_pick };
-
-    ghost cleared = { λ b. [] };
-
-    ghost posted = { bag_posted };
-
-    ghost taken = { bag_taken };
-
-    ghost roomy = { λ b. bag_roomy };
+    ghost roomy = { bag_roomy };
 
     fn clear(&mut self) {
         self.messages.clear();
@@ -65,10 +57,9 @@ impl Network for Bag {
 
     /// A message that is posted comes last.
     fn post(&mut self, message: Message) -> Result<(), TurnedAway>
-        ensures variant { is_err result ≡ bag_capacity.turns_away self.old message }
-        ensures ok { OnOk result (Same self.new (message ∷ self.old)) }
+        ensures variant { is_err result ≡ nat_le bag_holds (length self.old) }
+        ensures ok { OnOk result (Enters bag message self.old self.new) }
         ensures err { OnErr result (self.new ≡ self.old) }
-        ensures state { OnOk result (self.new ≡ bag_posted self.old message) }
     {
         if self.messages.len() >= Bag::HOLDS {
             return Err(TurnedAway);
@@ -80,9 +71,8 @@ impl Network for Bag {
     /// The message at place hint mod count; the last one moves into its place.
     fn take(&mut self, hint: u8) -> Option<Message>
         ensures choice { result ≡ bag_pick self.old hint }
-        ensures some { IfSome result (λ m. Same self.old (m ∷ self.new)) }
+        ensures some { IfSome result (λ m. Exits bag hint m self.old self.new) }
         ensures none { IfNone result ((self.old ≡ []) × (self.new ≡ self.old)) }
-        ensures state { OnSome result (self.new ≡ bag_taken self.old hint) }
     {
         let count = self.messages.len();
         if count == 0 {

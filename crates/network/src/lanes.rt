@@ -1,8 +1,8 @@
 //! Messages in ten queues, by addressee.
 
-ghost use Rattle.std.specs.Prelude.{◌≡◌, ◌+◌, ◌%◌, ◌<◌, [], ◌∷◌, length, replicate, IfSome, IfNone, OnSome, is_err, IfOk, OnOk, OnErr};
-ghost use Rattle.agreement.specs.Messages.{Same};
-ghost use Rattle.network.specs.Lanes.{lane_of, in_lane, all_lanes, lanes_capacity, first_filled, lanes_pick, lanes_posted, lanes_taken};
+ghost use Rattle.std.specs.Prelude.{◌≡◌, ◌+◌, ◌%◌, ◌<◌, nat_le, [], ◌∷◌, length, replicate, IfSome, IfNone, is_err, IfOk, OnOk, OnErr};
+ghost use Rattle.agreement.specs.Networks.{Clears, Enters, Exits};
+ghost use Rattle.network.specs.Lanes.{lane_of, in_lane, all_lanes, load, ten_lanes, lane_holds, first_filled, lanes_pick};
 
 use crate::lane::Lane;
 use crate::{Network, TurnedAway};
@@ -78,23 +78,14 @@ fn first_filled(lanes: &[Lane; Lanes::COUNT], start: usize) -> Option<usize>
 impl Network for Lanes {
     ghost use Rattle.network.specs.LanesLemmas.{lanes_roomy};
 
-    ghost waiting = { all_lanes };
+    ghost net = { ten_lanes };
 
-    ghost capacity = { λ l. lanes_capacity };
+    ghost floor = { λ l. lane_holds };
 
-    ghost picks = { lanes_pick };
-
-    ghost cleared = { λ l. replicate 10 [] };
-
-    ghost posted = { lanes_posted };
-
-    ghost taken = { lanes_taken };
-
-    ghost roomy = { λ l. lanes_roomy };
+    ghost roomy = { lanes_roomy };
 
     fn clear(&mut self)
-        ensures empty { all_lanes self.new ≡ [] }
-        ensures state { self.new ≡ replicate 10 [] }
+        ensures cleared { Clears ten_lanes self.old self.new }
     {
         for lane in self.lanes.iter_mut() {
             lane.clear();
@@ -104,10 +95,9 @@ impl Network for Lanes {
     /// A message that is posted is the newest of its lane.
     #[tactic(auto, using(crate::proofs::Queues::full_lane))]
     fn post(&mut self, message: Message) -> Result<(), TurnedAway>
-        ensures variant { is_err result ≡ lanes_capacity.turns_away (all_lanes self.old) message }
-        ensures ok { OnOk result (Same (all_lanes self.new) (message ∷ all_lanes self.old)) }
+        ensures variant { is_err result ≡ nat_le lane_holds (load (lane_of message) (all_lanes self.old)) }
+        ensures ok { OnOk result (Enters ten_lanes message self.old self.new) }
         ensures err { OnErr result (self.new ≡ self.old) }
-        ensures state { OnOk result (self.new ≡ lanes_posted self.old message) }
     {
         self.lanes[lane_of(message)].put(message)
     }
@@ -115,9 +105,8 @@ impl Network for Lanes {
     /// The oldest message of the first lane with one, from lane hint mod 10 on, going round.
     fn take(&mut self, hint: u8) -> Option<Message>
         ensures choice { result ≡ lanes_pick self.old hint }
-        ensures some { IfSome result (λ m. Same (all_lanes self.old) (m ∷ all_lanes self.new)) }
+        ensures some { IfSome result (λ m. Exits ten_lanes hint m self.old self.new) }
         ensures none { IfNone result ((all_lanes self.old ≡ []) × (self.new ≡ self.old)) }
-        ensures state { OnSome result (self.new ≡ lanes_taken self.old hint) }
     {
         let lane = first_filled(&self.lanes, hint as usize % Lanes::COUNT)?;
         self.lanes[lane].take_oldest()

@@ -2,6 +2,9 @@
 //! are those that `tools/expected.py` prints. That `count` stops at 65,535 is out of reach: a bag comes to 4,096, lanes
 //! to 400.
 
+ghost use Rattle.std.specs.Prelude.{◌≡◌, ◌∷◌, Some, IfOk, OnOk, OnErr, is_err};
+ghost use Rattle.agreement.specs.Messages.{Same};
+
 use crate::bag::Bag;
 use crate::lanes::Lanes;
 use crate::{Message, Network, TurnedAway, exchange};
@@ -140,6 +143,22 @@ fn nothing_waits_once_cleared(rt: HostRuntime) {
     assert_eq!(rt; post_and_clear(&mut lanes), (0, None));
 }
 
+// Over a network that is lent on, an exchange leaves that network as it would over the network itself.
+fn exchange_lent<N: Network>(
+    network: &mut N,
+    message: Message,
+    hint: u8,
+) -> Result<Message, TurnedAway>
+    ensures variant { is_err result ≡ N.net.turns_away network.old message }
+    ensures ok { IfOk result
+        (λ m. Same (message ∷ N.net.waiting network.old) (m ∷ N.net.waiting network.new)) }
+    ensures choice { IfOk result (λ m. N.net.picks (N.net.posted network.old message) hint ≡ Some m) }
+    ensures state { OnOk result (network.new ≡ N.net.taken (N.net.posted network.old message) hint) }
+    ensures err { OnErr result (network.new ≡ network.old) }
+{
+    exchange(&mut &mut *network, message, hint)
+}
+
 #[test]
 fn a_message_is_exchanged_for_another(rt: HostRuntime) {
     let mut lanes = Lanes::new(rt.alloc()).expect(&rt, "there is memory");
@@ -155,6 +174,36 @@ fn a_message_is_exchanged_for_another(rt: HostRuntime) {
     }
     assert_eq!(rt; exchange(&mut lanes, new, 9), Err(TurnedAway));
     assert_eq!(rt; lanes.count(), 40);
+}
+
+#[test]
+fn a_lent_bag_carries_for_the_bag(rt: HostRuntime) {
+    let mut bag = Bag::new(rt.alloc()).expect(&rt, "there is memory");
+    let mut lent = &mut bag;
+    for k in 0..6 {
+        assert_eq!(rt; Network::post(&mut lent, numbered(0, k)), Ok(()));
+    }
+    for (hint, want) in [(7, 1), (0, 0)] {
+        assert_eq!(rt; Network::take(&mut lent, hint), Some(numbered(0, want)));
+    }
+    assert_eq!(rt; Network::count(&lent), 4);
+    for (hint, want) in [(255, 3), (3, 4)] {
+        assert_eq!(rt; bag.take(hint), Some(numbered(0, want)));
+    }
+    assert_eq!(rt;
+        exchange(&mut &mut bag, numbered(0, 6), 1),
+        Ok(numbered(0, 5))
+    );
+    assert_eq!(rt;
+        exchange_lent(&mut bag, numbered(0, 7), 0),
+        Ok(numbered(0, 2))
+    );
+    assert_eq!(rt; bag.count(), 2);
+    assert_eq!(rt; bag.take(0), Some(numbered(0, 7)));
+    assert_eq!(rt; bag.count(), 1);
+    Network::clear(&mut &mut bag);
+    assert_eq!(rt; bag.count(), 0);
+    assert_eq!(rt; bag.take(0), None);
 }
 
 #[test]

@@ -2,9 +2,9 @@
 use Rattle.std.specs.Prelude.{◌≡◌, ℕ, List, [], map, replicate, ◌⊎◌}
 use Rattle.agreement.specs.Station.{Setting}
 use Rattle.agreement.specs.Rig.{Call}
-use Rattle.network.specs.Capacities.{Capacity}
-use Rattle.network.specs.Bags.{bag_capacity, bag_pick, bag_posted, bag_taken}
-use Rattle.network.specs.Lanes.{all_lanes, lanes_capacity, lanes_pick, lanes_posted, lanes_taken}
+use Rattle.network.specs.Bags.{bag}
+use Rattle.network.specs.Lanes.{ten_lanes}
+use Rattle.rig.specs.Settings.{setting_of}
 use Rattle.rulebody.specs.Kinds.{meant}
 use Rattle.calls.specs.Calls.{call_of}
 use Rattle.runfile.specs.declared.station_body.NetworkKind.{NetworkKind}
@@ -15,15 +15,12 @@ use Rattle.runfile.specs.Coins.{bits}
 use Rattle.runfile.specs.Faults.{number, place}
 use Rattle.runfile.specs.Files.{Says, FirstFault}
 use Rattle.transcript.specs.Lines.{refusal_line}
-use Rattle.playback.specs.Runs.{setting_of, PrintsRun}
-use Rattle.playback.specs.Carrying.{ways_by}
+use Rattle.playback.specs.Runs.{PrintsRun}
 
--- A run on a rig over a network of this kind, that has been cleared, prints the text.
-abbrev pub PrintsOver : NetworkKind → (Capacity → Setting) → List Call → List ℕ → Type 0
-PrintsOver Bag g calls text =
-    PrintsRun (ways_by bag_pick bag_posted bag_taken (λ w. bag_capacity) (λ w. w)) [] (g bag_capacity) calls text
-PrintsOver Lanes g calls text =
-    PrintsRun (ways_by lanes_pick lanes_posted lanes_taken (λ w. lanes_capacity) all_lanes) (replicate 10 []) (g lanes_capacity) calls text
+-- A run on a rig that is opened over a new network of this kind prints the text.
+abbrev pub PrintsOver : NetworkKind → Setting → List Call → List ℕ → Type 0
+PrintsOver Bag g calls text = PrintsRun bag [] g calls text
+PrintsOver Lanes g calls text = PrintsRun ten_lanes (replicate 10 []) g calls text
 
 -- A run of what a file says prints the text.
 abbrev pub PrintsSaid : RunFile → List ℕ → Type 0

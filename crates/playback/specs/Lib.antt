@@ -1,5 +1,5 @@
-pub mod Carrying
 pub mod Runs
 pub mod Playing
 pub mod Outcomes
 pub mod Files
+pub mod Theorems

@@ -1,6 +1,6 @@
 -- What playing calls on a rig prints.
 use Rattle.std.specs.Prelude.{◌≡◌, ℕ, List, ◌++◌, Result}
-use Rattle.agreement.specs.Rig.{Call, Answer}
+use Rattle.agreement.specs.Rig.{Call, Answer, Plays}
 use Rattle.faults.specs.declared.rule.FaultRule.{Ghosts as FaultRule}
 use Rattle.network.specs.declared.Network.{Ghosts as Network}
 use Rattle.coins.specs.declared.Coin.{Ghosts as Coin}
@@ -13,17 +13,12 @@ use Rattle.calls.specs.declared.answer.Answer.{Answer as Answered}
 use Rattle.calls.specs.Calls.{call_of, answer_of}
 use Rattle.calls.specs.Making.{Made}
 use Rattle.transcript.specs.Lines.{call_line}
-use Rattle.playback.specs.Carrying.{Ways, ways_by, PlaysOn}
 use Rattle.playback.specs.Runs.{call_lines}
 
 module _ {F N C : Type 0} {f : FaultRule F} {n : Network N} {c : Coin C} where
-  -- The ways of a rig's network.
-  abbrev pub ways : Rig F N C f n c → Ways N
-  ways r = ways_by n.picks n.posted n.taken n.capacity n.waiting
-
   -- The calls were made in a row, with these answers, and the text is their lines.
   pub record Printed (calls : List Call) (text : List ℕ) (r r' : Rig F N C f n c) (answers : List Answer) : Type 0 where
-    pub carried : PlaysOn (ways r) (setting r) calls answers (view r) (view r') r.network r'.network
+    pub plays : Plays n.net (setting r) calls answers (view r) (view r')
     pub lines : text ≡ call_lines calls answers
     pub kept : Kept r r'
 

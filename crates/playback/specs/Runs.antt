@@ -1,17 +1,9 @@
 -- What a run prints.
-use Rattle.std.specs.Prelude.{◌≡◌, ℕ, zero, suc, Bool, if◌then◌else◌, List, [], ◌∷◌, ◌++◌}
-use Rattle.agreement.specs.Families.{Families}
+use Rattle.std.specs.Prelude.{◌≡◌, ℕ, zero, suc, if◌then◌else◌, List, [], ◌∷◌, ◌++◌}
+use Rattle.agreement.specs.Networks.{Network}
 use Rattle.agreement.specs.Station.{Setting, is_own, Station}
 use Rattle.agreement.specs.Rig.{Rig, Opened, Call, Answer, Plays}
-use Rattle.network.specs.Capacities.{Capacity}
-use Rattle.rig.specs.declared.setup.Setup.{Setup}
-use Rattle.rig.specs.Settings.{setting_by}
-use Rattle.playback.specs.Carrying.{Ways, PlaysOn}
 use Rattle.transcript.specs.Lines.{call_line, station_line, missing_line}
-
--- What a rig is opened with: a rule's families, a setup, a coin's bits, and what the network turns away.
-abbrev pub setting_of : Families → Setup → (ℕ → Bool) → Capacity → Setting
-setting_of f setup bits capacity = record (setting_by f setup) { coin = bits; turns_away = capacity.turns_away }
 
 -- A line for each call, with its answer.
 abbrev pub call_lines : List Call → List Answer → List ℕ
@@ -26,18 +18,16 @@ station_lines g W (suc k) =
     station_lines g W k ++ (if is_own g k then station_line k (W k).stage (W k).decision else [])
 
 -- The last lines: those of the own stations, of which a rig has at most ten, and that of what is missing.
-abbrev pub last_lines : Setting → Rig → List ℕ
+abbrev pub last_lines : {N : Type 0} → Setting → Rig N → List ℕ
 last_lines g r = station_lines g r.station 10 ++ missing_line r.missing
 
--- A run of the calls, on a rig as it is opened and on a network that begins in state w, prints the text: a line for each
--- call, and the last lines.
-pub record PrintedBy {N : Type 0} (d : Ways N) (w w' : N) (g : Setting) (calls : List Call) (answers : List Answer) (text : List ℕ) (o r : Rig) : Type 0 where
-  pub opened : Opened g o
-  pub plays : Plays g calls answers o r
-  pub carried : PlaysOn d g calls answers o r w w'
+-- A run of the calls, on a rig as it is opened over a network in state w, prints the text: a line for each call, and the
+-- last lines.
+pub record PrintedBy {N : Type 0} (net : Network N) (w : N) (g : Setting) (calls : List Call) (answers : List Answer) (text : List ℕ) (o r : Rig N) : Type 0 where
+  pub opened : Opened net g w o
+  pub plays : Plays net g calls answers o r
   pub lines : text ≡ call_lines calls answers ++ last_lines g r
 
--- So it is for some rig as it is opened, and for what it and the network came to, with some answers.
-abbrev pub PrintsRun : {N : Type 0} → Ways N → N → Setting → List Call → List ℕ → Type 0
-PrintsRun {N} d w g calls text =
-    (o r : Rig) × (answers : List Answer) × (w' : N) × PrintedBy d w w' g calls answers text o r
+-- So it is for some rig as it is opened, and for what it came to, with some answers.
+abbrev pub PrintsRun : {N : Type 0} → Network N → N → Setting → List Call → List ℕ → Type 0
+PrintsRun {N} net w g calls text = (o r : Rig N) × (answers : List Answer) × PrintedBy net w g calls answers text o r

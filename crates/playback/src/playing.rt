@@ -4,8 +4,8 @@ ghost use Rattle.std.specs.Prelude.{◌≡◌, ◌++◌, ◌≤◌, map, take, S
 ghost use Rattle.std.specs.Result.{IsOkAnd};
 ghost use Rattle.transcript.specs.Lines.{missing_line};
 ghost use Rattle.calls.specs.Calls.{call_of};
-ghost use Rattle.playback.specs.Runs.{setting_of, PrintsRun};
-ghost use Rattle.playback.specs.Carrying.{ways_by};
+ghost use Rattle.rig.specs.Settings.{setting_of};
+ghost use Rattle.playback.specs.Runs.{PrintsRun};
 ghost use Rattle.playback.specs.Playing.{PrintsCalls, AddsCall};
 ghost use Rattle.playback.specs.Outcomes.{noted_line, outcome_lines};
 
@@ -26,8 +26,8 @@ pub fn play<F: FaultRule + Drop, N: Network + Drop, C: Coin + Drop>(
     coin: C,
     calls: &[Call],
 ) -> Result<Vec<u8>, AllocError>
-    ensures { IfOk result (λ text. PrintsRun (ways_by N.picks N.posted N.taken N.capacity N.waiting) (N.cleared network)
-        (setting_of (F.families rule) setup (C.bits coin) (N.capacity network)) (map call_of calls.now) text.items) }
+    ensures { IfOk result (λ text. PrintsRun N.net network
+        (setting_of (F.families rule) setup (C.bits coin)) (map call_of calls.now) text.items) }
 {
     let mut rig = setup.open(rule, network, coin);
     let mut text = play_calls(heap, &mut rig, calls)?;

@@ -1,7 +1,8 @@
 //! A cue in which nothing is called.
 
-ghost use Rattle.std.specs.Prelude.{◌≡◌};
-ghost use Rattle.rig.specs.Settings.{setting_by, opened_station};
+ghost use Rattle.std.specs.Prelude.{◌≡◌, ◌&&◌};
+ghost use Rattle.agreement.specs.Station.{fresh_station, is_own};
+ghost use Rattle.rig.specs.Settings.{setting_of};
 ghost use Rattle.rig.specs.Outcomes.{TellsAll};
 
 use coins::Coin;
@@ -16,8 +17,9 @@ pub fn idle_cue<F: FaultRule + Drop, N: Network + Drop, C: Coin + Drop>(
     network: N,
     coin: C,
 ) -> (N, Outcome)
-    ensures network { result.0 ≡ N.cleared network }
-    ensures stations { TellsAll (setting_by (F.families rule) setup) (opened_station (setting_by (F.families rule) setup)) result.1.stations }
+    ensures network { result.0 ≡ N.net.cleared network }
+    ensures stations { let g = setting_of (F.families rule) setup (C.bits coin) in
+        TellsAll (is_own g) g.rounds (λ i. fresh_station (is_own g i && g.opens i)) result.1.stations }
     ensures posted { result.1.posted ≡ 0 }
     ensures missing { result.1.missing ≡ 0 }
 {

@@ -1,5 +1,5 @@
-//! That rigs do what the pages say. Plays to the end are held to what `tools/rig.py` prints; everything else was worked by
-//! hand.
+//! That rigs do what the pages say. Plays to the end are held to what `tools/rig.py` prints; everything else was worked
+//! by hand.
 
 use agreement::Message;
 use coins::TableCoin;
@@ -9,6 +9,8 @@ use std::process::Abort;
 
 mod counts;
 mod effects;
+mod gates;
+mod lent;
 mod plays;
 mod refusals;
 mod single;

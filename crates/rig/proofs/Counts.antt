@@ -5,7 +5,8 @@ use Rattle.std.specs.List.{count_by}
 use Rattle.std.proofs.lemmas.List.Sums.{sum_by-cons}
 use Rattle.agreement.specs.declared.message.Message.{Message}
 use Rattle.agreement.specs.Messages.{Same}
-use Rattle.agreement.specs.Station.{Setting, size, stages, Station}
+use Rattle.agreement.specs.Networks.{Network as NetworkOf, Enters}
+use Rattle.agreement.specs.Station.{Rules, size, stages, Station}
 use Rattle.agreement.specs.Said.{said_by_all}
 use Rattle.faults.specs.declared.rule.FaultRule.{Ghosts as FaultRule}
 use Rattle.network.specs.declared.Network.{Ghosts as Network}
@@ -22,8 +23,8 @@ few n rounds p h k q =
     let all : n ^ 2 * (16 * rounds + 1) ≤ 100 * 129 = mul-le-mul {m₂ = 129} square (omega (arith, k)) in
     omega (arith, q, all)
 
-pub few_posted : (g : Setting) (W : ℕ → Station) (p : ℕ) → size g ≤ 10 → g.rounds ≤ 8
-    → p ≤ size g * said_by_all (size g) (stages g) W → p ≤ 12900
+pub few_posted : (g : Rules) (W : ℕ → Station) (p : ℕ) → size g ≤ 10 → g.rounds ≤ 8
+    → p ≡ size g * said_by_all (size g) (stages g) W → p ≤ 12900
 few_posted g W p h k q = few (size g) g.rounds p h k (omega (arith, q, all_le g W))
 
 pub count_more : (P : Message → Bool) (m : Message) (v w : List Message) → Same v (m ∷ w)
@@ -32,22 +33,22 @@ count_more P m v w s =
     let f : Message → ℕ = λ x. cond (P x) 1 0 in
     omega (arith, same_sums v (m ∷ w) s f, sum_by-cons f m w)
 
-and_true : (a : Bool) → (a && true) ≡ a
+pub and_true : (a : Bool) → (a && true) ≡ a
 and_true a = grind arith
 
-and_false : (a : Bool) → (a && false) ≡ false
+pub and_false : (a : Bool) → (a && false) ≡ false
 and_false a = grind arith
 
 -- and in a network to which a message was posted
-pub count_posted : {A E N : Type 0} (x : Result A E) (waiting : N → List Message) (n n' : N) (P : Message → Bool) (m : Message)
+pub count_posted : {A E N : Type 0} (x : Result A E) (net : NetworkOf N) (n n' : N) (P : Message → Bool) (m : Message)
     (p waits : Bool) (u k : ℕ)
-    → u ≡ count_by P (waiting n) → p ≡ P m → waits ≡ is_ok x → k ≡ cond (p && waits) 1 0
-    → OnOk x (Same (waiting n') (m ∷ waiting n)) → OnErr x (n' ≡ n)
-    → u + k ≡ count_by P (waiting n')
-count_posted (Ok a) waiting n n' P m p waits u k e f h l s t =
-    let c = count_more P m (waiting n') (waiting n) s in
+    → u ≡ count_by P (net.waiting n) → p ≡ P m → waits ≡ is_ok x → k ≡ cond (p && waits) 1 0
+    → OnOk x (Enters net m n n') → OnErr x (n' ≡ n)
+    → u + k ≡ count_by P (net.waiting n')
+count_posted (Ok a) net n n' P m p waits u k e f h l s t =
+    let c = count_more P m (net.waiting n') (net.waiting n) s.2 in
     rw (l, h, f) (rw (and_true (P m)) (omega (arith, e, c)))
-count_posted (Err a) waiting n n' P m p waits u k e f h l s t =
+count_posted (Err a) net n n' P m p waits u k e f h l s t =
     rw (l, h, f) (rw (and_false (P m)) (rw t (omega (arith, e))))
 
 -- and in a network off which a message was taken
@@ -57,5 +58,5 @@ count_taken P m v w u k s e f = let c = count_more P m v w s in (omega (arith, e
 
 -- what turns posted in a rig
 pub posted_within : {F N C : Type 0} {f : FaultRule F} {n : Network N} {c : Coin C} (r : Rig F N C f n c)
-    → r.posted ≤ size (setting r) ^ 2 * (16 * (setting r).rounds + 1)
-posted_within r = omega (arith, r.posted_for, all_le (setting r) (view r).station)
+    → r.posted ≤ size (setting r).rules ^ 2 * (16 * (setting r).rounds + 1)
+posted_within r = omega (arith, r.posted_is, all_le (setting r).rules (view r).station)

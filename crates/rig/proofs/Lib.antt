@@ -1,6 +1,8 @@
 pub mod Counts
 pub mod Posting
 pub mod Checks
+pub mod Sets
+pub mod Tables
 pub mod Same
 pub mod Turning
 pub mod Quiet

@@ -1,7 +1,7 @@
 -- Gradings that are noted round by round, and outcomes noted station by station.
 use Rattle.std.proofs.Common.{◌≡◌, ◌≢◌, ℕ, zero, suc, ◌+◌, ◌*◌, ◌<◌, Bool, true, ltb, ◌&&◌, ◌⊎◌, List, [], ◌∷◌, length, get_or, set, None as none, Option, option_map, ap, ◌∙◌, inl, inr, arith}
 use Rattle.std.proofs.lemmas.List.{get_or-set_same, get_or-set_other}
-use Rattle.agreement.specs.Station.{Setting, is_own}
+use Rattle.agreement.specs.Sets.{Set}
 use Rattle.agreement.specs.Station as model
 use Rattle.agreement.proofs.Tests.{same?}
 use Rattle.acts.specs.declared.value.Grade.{Grade}
@@ -43,5 +43,5 @@ noted_next round s gs a b h before e f r half k = elim (same_or_not r round) [
     at (suc (suc j)) l = absurd (omega (arith, l))
 
 -- the outcomes of the stations before an end
-abbrev pub NotedStations : ℕ → Setting → (ℕ → model.Station) → List (Option StationOutcome) → Type 0
-NotedStations end g W os = (i : ℕ) → TellsIfOwn (ltb i end && is_own g i) g.rounds (W i) (get_or os i none)
+abbrev pub NotedStations : ℕ → Set → ℕ → (ℕ → model.Station) → List (Option StationOutcome) → Type 0
+NotedStations end own rounds W os = (i : ℕ) → TellsIfOwn (ltb i end && own i) rounds (W i) (get_or os i none)

@@ -1,12 +1,14 @@
 -- When a rig is quiet.
-use Rattle.std.proofs.Common.{◌≡◌, ℕ, ◌+◌, ◌<◌, Bool, true, false, cond, ◌&&◌, ◌⊎◌, List, [], ◌∷◌, refl, ap, ◌∙◌, subst, inl, inr, arith}
+use Rattle.std.proofs.Common.{◌≡◌, ℕ, ◌+◌, ◌<◌, Bool, true, false, cond, ◌⊎◌, List, [], ◌∷◌, refl, ap, ◌∙◌, subst, inl, inr, arith}
 use Rattle.std.specs.List.{count_by}
 use Rattle.std.proofs.lemmas.List.Sums.{sum_by-cons}
 use Rattle.agreement.specs.declared.message.Message.{Message}
 use Rattle.agreement.specs.Messages.{copies}
 use Rattle.agreement.specs.Station.{Setting, Own, is_own, Idle}
+use Rattle.agreement.specs.Networks.{Network}
 use Rattle.agreement.specs.Rig.{Rig}
 use Rattle.agreement.specs.Law.{Quiet}
+use Rattle.rig.specs.Settings.{between}
 use Rattle.agreement.proofs.Tests.{true_or_false, and_split, and_both}
 use Rattle.agreement.proofs.Own.{own_is}
 use Rattle.agreement.proofs.Copies.{Waits, nothing_waits, waits_head, waits_tail, waits_cases}
@@ -42,30 +44,28 @@ module _ (P : Message → Bool) where
 pub own_of : (g : Setting) (i : ℕ) → is_own g i ≡ true → Own g i
 own_of g i e = grind (arith, e)
 
-abbrev between : Setting → Message → Bool
-between g m = is_own g m.sender && is_own g m.addressee
-
 -- a rig is quiet exactly where no message between own stations is counted and no own station has a rule to apply
-pub quiet_if : (g : Setting) (r : Rig) → count_by (between g) r.waiting ≡ 0
-    → ((i : ℕ) → is_own g i ≡ true → Idle g (r.station i)) → Quiet g r
-quiet_if g r e idle = (
-  λ m s a.
-      let b : between g m ≡ true = and_both (own_is g m.sender s) (own_is g m.addressee a) in
-      elim (zero_or_more (copies m r.waiting)) [
-        | inl z ↦ z
-        | inr h ↦ absurd (let k = counted (between g) m r.waiting h b in omega (arith, k, e))
-      ],
-  λ i o. idle i (own_is g i o),
-)
-  where
-    zero_or_more : (n : ℕ) → (n ≡ 0) ⊎ (0 < n)
-    zero_or_more n = grind arith
+module _ {N : Type 0} (net : Network N) (g : Setting) (r : Rig N) where
+  pub quiet_if : count_by (between (is_own g)) (net.waiting r.network) ≡ 0
+      → ((i : ℕ) → is_own g i ≡ true → Idle g.rules (r.station i)) → Quiet net g r
+  quiet_if e idle = (
+    λ m s a.
+        let b : between (is_own g) m ≡ true = and_both (own_is g m.sender s) (own_is g m.addressee a) in
+        elim (zero_or_more (copies m (net.waiting r.network))) [
+          | inl z ↦ z
+          | inr h ↦ absurd (let k = counted (between (is_own g)) m (net.waiting r.network) h b in omega (arith, k, e))
+        ],
+    λ i o. idle i (own_is g i o),
+  )
+    where
+      zero_or_more : (n : ℕ) → (n ≡ 0) ⊎ (0 < n)
+      zero_or_more n = grind arith
 
-pub quiet_counts : (g : Setting) (r : Rig) → Quiet g r → count_by (between g) r.waiting ≡ 0
-quiet_counts g r q = none_counted (between g) r.waiting
-    (λ m b h.
-    let (s, a) = and_split (is_own g m.sender) (is_own g m.addressee) b in
-    let z = q.0 m (own_of g m.sender s) (own_of g m.addressee a) in omega (arith, z, h))
+  pub quiet_counts : Quiet net g r → count_by (between (is_own g)) (net.waiting r.network) ≡ 0
+  quiet_counts q = none_counted (between (is_own g)) (net.waiting r.network)
+      (λ m b h.
+      let (s, a) = and_split (is_own g m.sender) (is_own g m.addressee) b in
+      let z = q.0 m (own_of g m.sender s) (own_of g m.addressee a) in omega (arith, z, h))
 
-pub quiet_idle : (g : Setting) (r : Rig) → Quiet g r → (i : ℕ) → is_own g i ≡ true → Idle g (r.station i)
-quiet_idle g r q i h = q.1 i (own_of g i h)
+  pub quiet_idle : Quiet net g r → (i : ℕ) → is_own g i ≡ true → Idle g.rules (r.station i)
+  quiet_idle q i h = q.1 i (own_of g i h)

@@ -14,7 +14,7 @@ answer f (Err e) = refused (number e)
 
 -- Why a call for an own station is refused.
 abbrev pub station_fault : Setting → ℕ → Option CallFault
-station_fault g i = if nat_lt i (size g) then (if g.guest i then Some Guest else None) else Some NoStation
+station_fault g i = if nat_lt i (size g.rules) then (if g.guest i then Some Guest else None) else Some NoStation
 
 -- Why the question for a grading is refused.
 abbrev pub grading_fault : Setting → ℕ → ℕ → ℕ → Option CallFault

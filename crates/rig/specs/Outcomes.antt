@@ -1,5 +1,6 @@
 -- What a rig came to.
 use Rattle.std.specs.Prelude.{◌≡◌, ℕ, ◌+◌, ◌*◌, ◌<◌, Bool, true, false, if◌then◌else◌, [], List, nat_lt, slice_index_or, Some, None, Option, option_map}
+use Rattle.agreement.specs.Sets.{Set}
 use Rattle.agreement.specs.Station.{Setting, is_own, bit}
 use Rattle.agreement.specs.Station as model
 use Rattle.agreement.specs.Rig as rig
@@ -31,11 +32,11 @@ TellsIfOwn true rounds s None = ⊥
 TellsIfOwn false rounds s o = o ≡ None
 
 -- So it is of each station.
-abbrev pub TellsAll : Setting → (ℕ → model.Station) → List (Option StationOutcome) → Type 0
-TellsAll g W os = (i : ℕ) → TellsIfOwn (is_own g i) g.rounds (W i) (slice_index_or os i None)
+abbrev pub TellsAll : Set → ℕ → (ℕ → model.Station) → List (Option StationOutcome) → Type 0
+TellsAll own rounds W os = (i : ℕ) → TellsIfOwn (own i) rounds (W i) (slice_index_or os i None)
 
 -- What a rig came to: its own stations, and its counts.
-pub record Tells (g : Setting) (r : rig.Rig) (o : Outcome) : Type 0 where
-  pub stations : TellsAll g r.station o.stations
+pub record Tells {N : Type 0} (g : Setting) (r : rig.Rig N) (o : Outcome) : Type 0 where
+  pub stations : TellsAll (is_own g) g.rounds r.station o.stations
   pub posted : o.posted ≡ r.posted
   pub missing : o.missing ≡ r.missing

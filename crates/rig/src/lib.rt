@@ -4,6 +4,7 @@
 
 mod fault;
 mod outcome;
+mod posts;
 mod rig;
 mod setup;
 mod table;

@@ -1,16 +1,16 @@
 //! What a rig came to.
 
 ghost use Rattle.station.specs.Stations.{read};
-ghost use Rattle.rig.specs.Settings.{setting_by};
+ghost use Rattle.rig.specs.Settings.{among};
 ghost use Rattle.rig.specs.Tables.{station_in};
 ghost use Rattle.rig.specs.Outcomes.{TellsStation, TellsAll};
 
-use crate::setup::Setup;
+use crate::setup::{Setup, is_among};
 use crate::table::StationTable;
 use acts::rounds::Rounds;
 use acts::value::Grading;
-use faults::rule::FaultRule;
 use station::station::Station;
+use stations::StationSet;
 
 /// What an own station came to.
 #[derive(Clone, Copy, PartialEq, Eq, Debug)]
@@ -59,18 +59,18 @@ impl StationOutcome {
 }
 
 impl StationTable {
-    /// What each own station came to.
-    pub(crate) fn outcomes<F: FaultRule>(
+    /// What each of the own stations came to, in so many rounds.
+    pub(crate) fn outcomes(
         &self,
-        rule: &F,
-        setup: &Setup,
+        own: StationSet,
+        rounds: Rounds,
     ) -> [Option<StationOutcome>; Setup::STATIONS]
-        ensures { TellsAll (setting_by (F.families rule.now) setup.now) (station_in self.now) result }
+        ensures { TellsAll (among own) rounds.count (station_in self.now) result }
     {
         let mut outcomes = [None; Setup::STATIONS];
-        for station in 0..rule.size() {
-            if setup.is_own(rule, station) {
-                let outcome = StationOutcome::of(self.record(station), setup.rounds);
+        for station in 0..Setup::STATIONS as u8 {
+            if is_among(own, station) {
+                let outcome = StationOutcome::of(self.record(station), rounds);
                 outcomes[station as usize] = Some(outcome);
             }
         }

@@ -6,7 +6,8 @@ ghost use Rattle.agreement.specs.Rig.{Opened};
 ghost use Rattle.std.specs.Result.{result_err};
 ghost use Rattle.rig.specs.Calls.{station_fault};
 ghost use Rattle.rig.specs.Tables.{station_in};
-ghost use Rattle.rig.specs.Settings.{setting_by, count_between_own};
+ghost use Rattle.agreement.specs.Station.{is_own};
+ghost use Rattle.rig.specs.Settings.{setting_of, among, count_between};
 
 mod calls;
 mod questions;
@@ -20,6 +21,7 @@ pub use calls::Delivery;
 use coins::Coin;
 use faults::rule::FaultRule;
 use network::Network;
+use stations::StationSet;
 
 /// n stations round one cue, the network that carries their messages, and a coin.
 #[derive(Drop)]
@@ -37,10 +39,10 @@ pub struct Rig<F: FaultRule, N: Network, C: Coin> {
     missing: u32,
     /// How many from own to own stations wait.
     under_way: u16,
-    // Turns posted at most one message to each station for each thing that was said.
-    ghost posted_for: { posted ≤ (F.families rule).n * said_by_all (F.families rule).n (4 * setup.rounds.count) (station_in stations) },
+    // Turns posted one message to each station for each thing that was said.
+    ghost posted_is: { posted ≡ (F.families rule).n * said_by_all (F.families rule).n (4 * setup.rounds.count) (station_in stations) },
     // `under_way` is how many messages between own stations wait.
-    ghost under_way_is: { under_way ≡ count_between_own (setting_by (F.families rule) setup) (N.waiting network) },
+    ghost under_way_is: { under_way ≡ count_between (is_own (setting_of (F.families rule) setup (C.bits coin))) (N.net.waiting network) },
     // Turns posted every one of them.
     ghost under_way_posted: { under_way ≤ posted },
 }
@@ -56,15 +58,14 @@ impl Setup {
         mut network: N,
         coin: C,
     ) -> Rig<F, N, C>
-        ensures opened { Opened (setting result) (view result) }
+        ensures opened { Opened N.net (setting result) network (view result) }
         ensures rule { result.rule ≡ rule }
         ensures coin { result.coin ≡ coin }
         ensures setup { result.setup ≡ self }
-        ensures network { result.network ≡ N.cleared network }
-        ensures capacity { N.capacity result.network ≡ N.capacity network }
+        ensures floor { N.floor result.network ≡ N.floor network }
     {
         network.clear();
-        let stations = StationTable::new(&rule, &self);
+        let stations = StationTable::new(self.opening_with_1(&rule));
         Rig {
             rule,
             network,
@@ -81,6 +82,13 @@ impl Setup {
 
 impl<F: FaultRule, N: Network, C: Coin> Rig<F, N, C> {
     ghost use Rattle.rig.specs.Rigs.{setting, view};
+
+    // The own stations.
+    fn own(&self) -> StationSet
+        ensures { among result ≡ is_own (setting self.now) }
+    {
+        self.setup.own(&self.rule)
+    }
 
     // Refuses a station that is not an own station of the rig.
     fn check_own(&self, station: u8) -> Result<(), CallFault>
@@ -105,10 +113,10 @@ impl<F: FaultRule + Drop, N: Network, C: Coin + Drop> Rig<F, N, C> {
     pub fn close(self) -> (N, Outcome)
         ensures network { result.0 ≡ self.network }
         ensures outcome { Tells (setting self) (view self) result.1 }
-        ensures bound { result.1.posted ≤ size (setting self) ^ 2 * (16 * (setting self).rounds + 1) }
+        ensures bound { result.1.posted ≤ size (setting self).rules ^ 2 * (16 * (setting self).rounds + 1) }
     {
         let outcome = Outcome {
-            stations: self.stations.outcomes(&self.rule, &self.setup),
+            stations: self.stations.outcomes(self.own(), self.setup.rounds),
             posted: self.posted,
             missing: self.missing,
         };

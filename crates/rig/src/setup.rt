@@ -1,11 +1,10 @@
 //! What is entered before a rig is opened.
 
-ghost use Rattle.std.specs.Prelude.{◌≡◌, IfOk, OnOk, OnErr, ◌&&◌, not};
+ghost use Rattle.std.specs.Prelude.{◌≡◌, IfOk, OnOk, OnErr};
 ghost use Rattle.std.specs.Result.{result_err};
-ghost use Rattle.agreement.specs.Sets.{either, only, without};
+ghost use Rattle.agreement.specs.Sets.{either, only, below, outside, without};
 ghost use Rattle.stations.specs.Members.{members};
-ghost use Rattle.agreement.specs.Station.{is_own};
-ghost use Rattle.rig.specs.Settings.{setting_by, between_own};
+ghost use Rattle.rig.specs.Settings.{among, between};
 ghost use Rattle.rig.specs.Setups.{new_fault, guest_fault, opening_fault, with_opening};
 
 use crate::fault::SetupFault;
@@ -82,24 +81,31 @@ impl Setup {
         }
     }
 
-    /// Whether a station is an own station of a rig of this rule.
-    pub(crate) fn is_own<F: FaultRule>(&self, rule: &F, station: u8) -> bool
-        ensures { result ≡ is_own (setting_by (F.families rule.now) self.now) station }
+    /// The own stations of a rig of this rule.
+    pub(crate) fn own<F: FaultRule>(&self, rule: &F) -> StationSet
+        ensures { among result ≡ below (F.families rule.now).n (outside (members self.now.guests)) }
     {
-        station < rule.size() && !self.guests.has(station)
+        self.guests.rest(rule.size())
     }
 
-    /// Whether a message goes from an own station to an own one.
-    pub(crate) fn is_between_own<F: FaultRule>(&self, rule: &F, message: Message) -> bool
-        ensures { result ≡ between_own (setting_by (F.families rule.now) self.now) message }
+    /// The own stations of a rig of this rule that open with 1.
+    pub(crate) fn opening_with_1<F: FaultRule>(&self, rule: &F) -> StationSet
+        ensures { among result ≡ below (F.families rule.now).n (without (members self.now.openings) (members self.now.guests)) }
     {
-        self.is_own(rule, message.sender) && self.is_own(rule, message.addressee)
+        self.openings.difference(self.guests).up_to(rule.size())
     }
+}
 
-    /// The own stations that open with 1.
-    pub(crate) fn openings(&self) -> StationSet
-        ensures { members result ≡ without (members self.now.openings) (members self.now.guests) }
-    {
-        self.openings.difference(self.guests)
-    }
+/// Whether a station is one of a set, and one that a rig can have.
+pub(crate) fn is_among(stations: StationSet, station: u8) -> bool
+    ensures { result ≡ among stations station }
+{
+    (station as usize) < Setup::STATIONS && stations.has(station)
+}
+
+/// Whether a message goes from a station of a set to one of that set.
+pub(crate) fn is_between(stations: StationSet, message: Message) -> bool
+    ensures { result ≡ between (among stations) message }
+{
+    is_among(stations, message.sender) && is_among(stations, message.addressee)
 }

@@ -4,4 +4,5 @@ pub mod Readings
 pub mod Fresh
 pub mod News
 pub mod Searches
+pub mod Turns
 pub mod Settled

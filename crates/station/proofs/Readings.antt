@@ -3,7 +3,7 @@ use Rattle.std.proofs.Common.{◌≡◌, ℕ, ◌+◌, ◌<◌, Bool, true, fals
 use Rattle.std.specs.Option.{option_or}
 use Rattle.std.proofs.lemmas.List.{get_or-set_same, get_or-set_other, get_or_default, length-set}
 use Rattle.agreement.specs.Sets.{Set, holds, below, outside, either, only}
-use Rattle.agreement.specs.Station.{Setting, put, with_message, after_act, admitting, bit}
+use Rattle.agreement.specs.Station.{Rules, put, with_message, after_act, admitting, bit}
 use Rattle.agreement.specs.Station as model
 use Rattle.agreement.specs.Messages.{message, prepare, propose, commit}
 use Rattle.agreement.proofs.Tests.{same?, eqb_same}
@@ -319,7 +319,7 @@ prepared_in s σ v d u w k within e =
     })
 
 -- a station that has admitted v in stage σ
-pub admitted_in : (g : Setting) (s : Station) (σ : ℕ) (v : Value) (d u w : StageRecord) → Written s σ u w
+pub admitted_in : (g : Rules) (s : Station) (σ : ℕ) (v : Value) (d u w : StageRecord) → Written s σ u w
     → let t = get_or s.stages σ d in number v < length t.values → u ≡ with_value_admitted v t
     → read (record s { stages = set s.stages σ w }) ≡ after_act g (admitting σ (number v)) (read s)
 admitted_in g s σ v d u w k within e =

@@ -3,7 +3,7 @@ use Rattle.std.proofs.Common.{◌≡◌, ℕ, ◌*◌, ◌<◌, ◌↔◌, Bool,
 use Rattle.std.specs.Option.{option_map_or}
 use Rattle.agreement.specs.Sets.{Set, holds, outside}
 use Rattle.agreement.specs.Families.{Families, Laws}
-use Rattle.agreement.specs.Station.{Setting, bit, Applies, opening, joining, admitting, deciding, proposers}
+use Rattle.agreement.specs.Station.{Rules, bit, Applies, opening, joining, admitting, deciding, proposers}
 use Rattle.agreement.proofs.Tests.{same_truth, and_split}
 use Rattle.acts.specs.declared.act.Act.{Act}
 use Rattle.acts.specs.declared.act.Act.TheVariants.{Open, Join, Admit, Close, Decide}
@@ -14,7 +14,7 @@ use Rattle.station.specs.declared.stage.StageRecord.{StageRecord}
 use Rattle.station.specs.declared.station.Station.{Station}
 use Rattle.station.specs.Stages.{value_of, proposal_of, if_admitted, opening_act, to_join, to_admit, FirstValue, FirstServed, backers, AreBacked, Closes}
 use Rattle.station.specs.Stations.{stage_of, read}
-use Rattle.station.specs.Turns.{setting, decides, FirstBit, FirstInStage}
+use Rattle.station.specs.Turns.{rules_of, decides, FirstBit, FirstInStage}
 use Rattle.station.proofs.Duties.{FirstValued, first_closing, none_of}
 
 -- a proposal is an admitted value, in the model's words
@@ -77,10 +77,10 @@ undecided none = (λ e. refl, λ e. refl)
 undecided (some b) = (λ e. cc, λ e. cc)
 
 -- whether a bit is decided
-decides_one : (f : Families) (s : Station) (rounds b : ℕ)
-    → (decides f s b ≡ false → Applies (setting f rounds (λ _. false)) (read s) (deciding b) → ⊥)
-    × (b < 2 → decides f s b ≡ true → Applies (setting f rounds (λ _. false)) (read s) (deciding b))
-decides_one f s rounds b =
+decides_one : (f : Families) (s : Station) (rounds : ℕ) (coin : ℕ → Bool) (b : ℕ)
+    → (decides f s b ≡ false → Applies (rules_of f rounds coin) (read s) (deciding b) → ⊥)
+    × (b < 2 → decides f s b ≡ true → Applies (rules_of f rounds coin) (read s) (deciding b))
+decides_one f s rounds coin b =
     let u = undecided s.decision in (
       λ e y. let n = u.0 y.1 in let w = y.2 in grind arith,
       λ h e.
@@ -89,17 +89,18 @@ decides_one f s rounds b =
     )
 
 -- the first bit found is the first that is to be decided
-pub first_decided : (f : Families) (s : Station) (rounds : ℕ) (o : Option Bool) → FirstBit (decides f s) o
-    → FirstValued (setting f rounds (λ _. false)) (read s) deciding (option_map bit o)
-first_decided f s rounds none h = λ b y. (decides_one f s rounds b).0 (h b (omega (arith, y.0))) y
-first_decided f s rounds (some b) h = (
-  (decides_one f s rounds (bit b)).1 (grind arith) h.0,
-  λ c k y. (decides_one f s rounds c).0 (h.1 c k) y,
+pub first_decided : (f : Families) (s : Station) (rounds : ℕ) (coin : ℕ → Bool) (o : Option Bool)
+    → FirstBit (decides f s) o → FirstValued (rules_of f rounds coin) (read s) deciding (option_map bit o)
+first_decided f s rounds coin none h = λ b y. (decides_one f s rounds coin b).0 (h b (omega (arith, y.0))) y
+first_decided f s rounds coin (some b) h = (
+  (decides_one f s rounds coin (bit b)).1 (grind arith) h.0,
+  λ c k y. (decides_one f s rounds coin c).0 (h.1 c k) y,
 )
 
-module _ (f : Families) (l : Laws f) (s : Station) (σ rounds : ℕ) (t : StageRecord) (at : t ≡ stage_of s σ) where
-  abbrev G : Setting
-  G = setting f rounds (λ _. false)
+module _ (f : Families) (l : Laws f) (s : Station) (σ rounds : ℕ) (coin : ℕ → Bool) (t : StageRecord)
+    (at : t ≡ stage_of s σ) where
+  abbrev G : Rules
+  G = rules_of f rounds coin
 
   no_joining : FirstValue (λ v. to_join f (value_of t v)) none → FirstValued G (read s) (joining σ) none
   no_joining h v p = let k = rw at at h v (omega (arith, p.2)) in grind arith

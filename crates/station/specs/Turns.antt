@@ -1,8 +1,9 @@
 -- What a turn of a station of the program does.
-use Rattle.std.specs.Prelude.{◌≡◌, ℕ, ◌<◌, Bool, false, not, ◌&&◌, slice_index_or, Some, None, Option, is_none, option_map, ◌+◌, ◌*◌}
+use Rattle.std.specs.Prelude.{◌≡◌, ℕ, ◌<◌, Bool, not, ◌&&◌, slice_index_or, Some, None, Option}
+use Rattle.std.specs.Prelude.{is_none, option_map, ◌+◌, ◌*◌}
 use Rattle.std.specs.Option.{option_or}
 use Rattle.agreement.specs.Families.{Families}
-use Rattle.agreement.specs.Station.{bit, put, Setting, Idle, Due, after_act, speech}
+use Rattle.agreement.specs.Station.{bit, put, Rules, Idle, Due, after_act, speech}
 use Rattle.agreement.specs.Station as model
 use Rattle.stations.specs.Members.{members}
 use Rattle.acts.specs.declared.act.Act.{Act}
@@ -14,17 +15,9 @@ use Rattle.station.specs.Duties.{NoneOf, FirstOf}
 use Rattle.station.specs.Stages.{First}
 use Rattle.station.specs.declared.station.Station.{Station}
 
--- What a station goes by: the fault rule, the number of rounds and the coin. Who is a guest, what stations open with, and
--- which messages a network turns away, is nothing to it.
-abbrev pub setting : Families → ℕ → (ℕ → Bool) → Setting
-setting f rounds coin = record {
-  rule = f;
-  rounds = rounds;
-  guest = λ _. false;
-  opens = λ _. false;
-  coin = coin;
-  turns_away = λ _ _. false;
-}
+-- What a station goes by: the fault rule, the number of rounds and the coin.
+abbrev pub rules_of : Families → ℕ → (ℕ → Bool) → Rules
+rules_of f rounds coin = record { rule = f; rounds = rounds; coin = coin }
 
 -- The bit is to be decided: none is, and those who committed it are blocking.
 abbrev pub decides : Families → Station → ℕ → Bool
@@ -35,16 +28,16 @@ abbrev pub FirstBit : (ℕ → Bool) → Option Bool → Type 0
 FirstBit P r = First 2 P (option_map bit r)
 
 -- The first act of a stage that applies, or none where none applies.
-abbrev pub FirstInStage : Setting → model.Station → ℕ → Option Act → Type 0
+abbrev pub FirstInStage : Rules → model.Station → ℕ → Option Act → Type 0
 FirstInStage g s σ None = NoneOf g s σ
 FirstInStage g s σ (Some a) = FirstOf g s σ (act_of a)
 
--- The same under a fault rule, however many rounds there are.
+-- The same under a fault rule, however many rounds there are, and whatever the coin.
 abbrev pub FirstIn : Families → model.Station → ℕ → Option Act → Type 0
-FirstIn f s σ r = (rounds : ℕ) → σ < 4 * rounds → FirstInStage (setting f rounds (λ _. false)) s σ r
+FirstIn f s σ r = (rounds : ℕ) (coin : ℕ → Bool) → σ < 4 * rounds → FirstInStage (rules_of f rounds coin) s σ r
 
 -- The act that is due, or none where none applies.
-abbrev pub DueOrIdle : Setting → model.Station → Option Act → Type 0
+abbrev pub DueOrIdle : Rules → model.Station → Option Act → Type 0
 DueOrIdle g s None = Idle g s
 DueOrIdle g s (Some a) = Due g s (act_of a)
 
@@ -57,14 +50,14 @@ CanDo (Close σ x) s = (σ ≡ s.current) × (σ < 32)
 CanDo (Decide b) s = Unit {0}
 
 -- A station that does what is due in a turn: the act, and what is said.
-pub record DoesDueAct (g : Setting) (s s' : model.Station) (t : Turn) : Type 0 where
+pub record DoesDueAct (g : Rules) (s s' : model.Station) (t : Turn) : Type 0 where
   pub due : Due g s (act_of t.act)
   pub state : s' ≡ after_act g (act_of t.act) s
   pub says : option_map payload_of t.says ≡ speech (act_of t.act) s
 
 -- s' is the station that has done an act: what an act does goes by the coin, and by nothing else that is set.
 abbrev pub HasDone : (ℕ → Bool) → model.Act → model.Station → model.Station → Type 0
-HasDone coin a s s' = (g : Setting) → g.coin ≡ coin → s' ≡ after_act g a s
+HasDone coin a s s' = (g : Rules) → g.coin ≡ coin → s' ≡ after_act g a s
 
 -- The station that has left its stage with a grading, if it gives one, and come into the next with an input.
 abbrev pub with_next_stage : Option model.Grading → ℕ → model.Station → model.Station

@@ -1,12 +1,12 @@
 //! One own station.
 
-ghost use Rattle.std.specs.Prelude.{◌≡◌, Bool, ◌*◌, ◌<◌, false, true, not, is_none, ◌≢◌, ◌↔◌, option_map};
+ghost use Rattle.std.specs.Prelude.{◌≡◌, ℕ, Bool, ◌*◌, ◌<◌, false, true, not, is_none, ◌≢◌, ◌↔◌, option_map};
 ghost use Rattle.agreement.specs.Messages.{message as message_of, prepare, propose, commit};
 ghost use Rattle.agreement.specs.Station.{bit as bit_number, fresh_station, with_message, after_message, Idle};
 ghost use Rattle.acts.specs.Values.{number, value_of_bit};
 ghost use Rattle.acts.specs.Gradings.{in_numbers};
 ghost use Rattle.station.specs.Stations.{read};
-ghost use Rattle.station.specs.Turns.{setting};
+ghost use Rattle.station.specs.Turns.{rules_of};
 
 mod due;
 mod turn;
@@ -105,7 +105,8 @@ impl Station {
 
     /// Whether no act applies.
     pub fn is_idle<F: FaultRule>(&self, rule: &F, rounds: Rounds) -> bool
-        ensures { (result ≡ true) ↔ Idle (setting (F.families rule.now) rounds.count (λ _. false)) (read self.now) }
+        ensures { (coin : ℕ → Bool)
+            → (result ≡ true) ↔ Idle (rules_of (F.families rule.now) rounds.count coin) (read self.now) }
     {
         self.due(rule, rounds).is_none()
     }

@@ -15,7 +15,7 @@ use std::process::Abort;
 
 // Every station acts while it can, twelve messages come, and so on; answers how often, until a time without any. With
 // losses, the fourth of each twelve is lost.
-fn play<F: FaultRule, N: Network, C: Coin>(
+pub(super) fn play<F: FaultRule, N: Network, C: Coin>(
     rig: &mut Rig<F, N, C>,
     size: u8,
     loses: bool,
@@ -51,9 +51,12 @@ fn rest<F: FaultRule, N: Network, C: Coin>(rig: &mut Rig<F, N, C>, size: u8) -> 
     none
 }
 
-// A guest prepares and proposes another value to each own station, 0, 1 and blank, in every stage of two rounds; it commits
-// both bits.
-fn tell_everyone_another<F: FaultRule, N: Network, C: Coin>(rig: &mut Rig<F, N, C>, guest: u8) {
+// A guest prepares and proposes another value to each own station, 0, 1 and blank, in every stage of two rounds; it
+// commits both bits.
+pub(super) fn tell_everyone_another<F: FaultRule, N: Network, C: Coin>(
+    rig: &mut Rig<F, N, C>,
+    guest: u8,
+) {
     for stage in 0..8 {
         for to in 0..3 {
             let _ = rig.send(message(guest, to, 1, stage, to));
@@ -67,7 +70,7 @@ fn tell_everyone_another<F: FaultRule, N: Network, C: Coin>(rig: &mut Rig<F, N, 
 }
 
 // A station with these first gradings that decided a bit, and that had it at grade 2 in all the others of its rounds.
-fn finished(rounds: u8, first: Grading, bit: bool) -> Option<StationOutcome> {
+pub(super) fn finished(rounds: u8, first: Grading, bit: bool) -> Option<StationOutcome> {
     let mut gradings = [[None; 2]; 8];
     for round in 0..rounds.min(8) {
         gradings[round as usize] = [Some((Some(bit), Grade::Two)); 2];
@@ -81,7 +84,7 @@ fn finished(rounds: u8, first: Grading, bit: bool) -> Option<StationOutcome> {
 }
 
 // The outcomes of stations below n that all came to the same.
-fn same(outcome: Option<StationOutcome>, n: u8) -> [Option<StationOutcome>; 10] {
+pub(super) fn same(outcome: Option<StationOutcome>, n: u8) -> [Option<StationOutcome>; 10] {
     let mut stations = [None; 10];
     for station in 0..n.min(10) {
         stations[station as usize] = outcome;
@@ -89,8 +92,8 @@ fn same(outcome: Option<StationOutcome>, n: u8) -> [Option<StationOutcome>; 10] 
     stations
 }
 
-// Four stations of which one may be a guest, two rounds, and a coin that is 1 in the first: how long they play, whether
-// they are quiet then, and what they come to.
+// Four stations of which one may be a guest, two rounds, and a coin that is 1 in the first: how long they play,
+// whether they are quiet then, and what they come to.
 fn play_four<N: Network + Drop>(
     rt: &impl Abort,
     network: N,
@@ -180,7 +183,7 @@ fn play_with_guest<N: Network + Drop>(
     (sent, times, rig.is_quiet(), rig.close().1)
 }
 
-const ONE: Grading = (Some(true), Grade::Two);
+pub(super) const ONE: Grading = (Some(true), Grade::Two);
 
 const NOTHING: Grading = (None, Grade::Zero);
 

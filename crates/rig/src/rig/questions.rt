@@ -38,7 +38,7 @@ impl<F: FaultRule, N: Network, C: Coin> Rig<F, N, C> {
             return Err(CallFault::NoGrading);
         }
         let stage = Rounds::QUARTERS * round + 2 * half + 1;
-        Ok(self.stations.grading(station, stage))
+        Ok(self.stations.record(station).grading(stage))
     }
 
     /// The bit that an own station decided. None where it has not decided yet.
@@ -53,7 +53,7 @@ impl<F: FaultRule, N: Network, C: Coin> Rig<F, N, C> {
     /// How many messages turns handed to the network, also those that it turned away.
     pub fn posted(&self) -> u16
         ensures count { result ≡ (view self.now).posted }
-        ensures bound { result ≤ size (setting self.now) ^ 2 * (16 * (setting self.now).rounds + 1) }
+        ensures bound { result ≤ size (setting self.now).rules ^ 2 * (16 * (setting self.now).rounds + 1) }
     {
         self.posted
     }
@@ -67,15 +67,18 @@ impl<F: FaultRule, N: Network, C: Coin> Rig<F, N, C> {
 
     /// How many messages wait, or 65,535 if more do.
     pub fn waiting(&self) -> u16
-        ensures { result ≡ min 65535 (length (view self.now).waiting) }
+        ensures { result ≡ min 65535 (length (N.net.waiting self.now.network)) }
     {
         self.network.count()
     }
 
     /// Whether the rig is quiet: no message from an own to an own station waits, and no act applies at an own station.
     pub fn is_quiet(&self) -> bool
-        ensures { (result ≡ true) ↔ Quiet (setting self.now) (view self.now) }
+        ensures { (result ≡ true) ↔ Quiet N.net (setting self.now) (view self.now) }
     {
-        self.under_way == 0 && self.stations.is_idle(&self.rule, &self.setup)
+        self.under_way == 0
+            && self
+                .stations
+                .is_idle(&self.rule, self.setup.rounds, self.own())
     }
 }

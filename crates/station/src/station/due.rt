@@ -1,8 +1,8 @@
 //! Which act is due.
 
-ghost use Rattle.std.specs.Prelude.{◌≡◌, ◌*◌, ◌<◌, ◌≤◌, min, ◌+◌, false};
+ghost use Rattle.std.specs.Prelude.{◌≡◌, ℕ, Bool, ◌*◌, ◌<◌, ◌≤◌, min, ◌+◌};
 ghost use Rattle.station.specs.Stations.{read};
-ghost use Rattle.station.specs.Turns.{setting, FirstBit, decides, FirstIn, DueOrIdle};
+ghost use Rattle.station.specs.Turns.{rules_of, FirstBit, decides, FirstIn, DueOrIdle};
 
 use super::Station;
 use acts::act::Act;
@@ -12,7 +12,8 @@ use faults::rule::FaultRule;
 impl Station {
     /// The act that is due, if any applies: the first by stages, rules 1 to 4 and values; rule 5 is tried last.
     pub(super) fn due<F: FaultRule>(&self, rule: &F, rounds: Rounds) -> Option<Act>
-        ensures { DueOrIdle (setting (F.families rule.now) rounds.count (λ _. false)) (read self.now) result }
+        ensures { (coin : ℕ → Bool)
+            → DueOrIdle (rules_of (F.families rule.now) rounds.count coin) (read self.now) result }
     {
         for stage in 0..self.reached(rounds) {
             if let Some(act) = self.due_in(rule, stage) {

@@ -1,14 +1,14 @@
 //! What a station does in a turn.
 
 ghost use Rattle.std.specs.Prelude.{◌≡◌, ◌<◌, ◌/◌, ◌%◌, IfSome, IfNone, Some, None, option_map, is_none, if◌then◌else◌};
-ghost use Rattle.agreement.specs.Station.{bit as bit_number, Setting, with_prepared, after_act, admitting, closing, speech, Idle};
+ghost use Rattle.agreement.specs.Station.{bit as bit_number, Rules, with_prepared, after_act, admitting, closing, speech, Idle};
 ghost use Rattle.acts.specs.Values.{number, values as values_of};
 ghost use Rattle.acts.specs.Gradings.{in_numbers};
 ghost use Rattle.acts.specs.Payloads.{payload_of};
 ghost use Rattle.acts.specs.Acts.{act_of};
 ghost use Rattle.acts.specs.declared.payload.Payload.TheVariants.{Commit};
 ghost use Rattle.station.specs.Stations.{read};
-ghost use Rattle.station.specs.Turns.{setting, DoesDueAct, HasDone, CanDo, with_next_stage, with_committed};
+ghost use Rattle.station.specs.Turns.{rules_of, DoesDueAct, HasDone, CanDo, with_next_stage, with_committed};
 
 use super::Station;
 use acts::act::{Act, Turn};
@@ -26,8 +26,8 @@ impl Station {
         coin: &C,
         rounds: Rounds,
     ) -> Option<Turn>
-        ensures due { IfSome result (DoesDueAct (setting (F.families rule.now) rounds.count (C.bits coin.now)) (read self.old) (read self.new)) }
-        ensures idle { IfNone result (Idle (setting (F.families rule.now) rounds.count (C.bits coin.now)) (read self.old)) }
+        ensures due { IfSome result (DoesDueAct (rules_of (F.families rule.now) rounds.count (C.bits coin.now)) (read self.old) (read self.new)) }
+        ensures idle { IfNone result (Idle (rules_of (F.families rule.now) rounds.count (C.bits coin.now)) (read self.old)) }
         ensures unchanged { IfNone result (self.new ≡ self.old) }
     {
         let act = self.due(rule, rounds)?;
@@ -65,7 +65,7 @@ impl Station {
     // Admits a value, and proposes it where it is the stage's first.
     fn admit(&mut self, stage: u8, value: Value) -> Option<Payload>
         requires { stage < 32 }
-        ensures state { (g : Setting) → read self.new ≡ after_act g (admitting stage (number value)) (read self.old) }
+        ensures state { (g : Rules) → read self.new ≡ after_act g (admitting stage (number value)) (read self.old) }
         ensures says { option_map payload_of result ≡ speech (admitting stage (number value)) (read self.old) }
     {
         let is_first = self.stages[stage as usize].admit(value);

@@ -1,5 +1,8 @@
-use Rattle.std.proofs.Common.{rules}
+use Rattle.stations.specs.Members.{members}
+use Rattle.rig.proofs.Tables.{all_opened}
 use Rattle.rig.proofs.table.StationTable.new.Goals as goal
 
 pub returns : goal.returns
-returns g c i h = rw c.openings-openings.ensures at c.loop-station.invariant.1 i (search rules)
+returns c i =
+    all_opened c.loop-station.records (members c.args.openings) c.loop-station.station c.loop-station.invariant.0
+    c.loop-station-test.false c.loop-station.invariant.1 i
