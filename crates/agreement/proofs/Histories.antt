@@ -98,10 +98,10 @@ pub histories_lead_on : HistoriesLeadOn
 histories_lead_on g s es = let (t, p) = leads_on g es s in (t, p, λ u q. gives_once g es s u t q p)
 
 pub histories_tell : {N M : Type 0} → HistoriesTell N M
-histories_tell net other g h rules v w calls others answers their o r p q a b x y i k oi ok alike same =
+histories_tell net other g h rules v w calls others answers their o r p q a b x y i oi ok alike same =
     let x = stations_follow_rules net g v calls answers o r a x i oi in
-    let y = stations_follow_rules other h w others their p q b y k ok in
-    gives_once g.rules (history i calls answers) (fresh_station (g.opens i)) (r.station i) (q.station k) x
-    (subst (λ G. Gives G (fresh_station (g.opens i)) (history i calls answers) (q.station k)) (sym rules)
-    (subst (λ b. Gives h.rules (fresh_station b) (history i calls answers) (q.station k)) (sym alike)
-    (subst (λ es. Gives h.rules (fresh_station (h.opens k)) es (q.station k)) (sym same) y)))
+    let y = stations_follow_rules other h w others their p q b y i ok in
+    gives_once g.rules (history i calls answers) (fresh_station (g.opens i)) (r.station i) (q.station i) x
+    (subst (λ G. Gives G (fresh_station (g.opens i)) (history i calls answers) (q.station i)) (sym rules)
+    (subst (λ b. Gives h.rules (fresh_station b) (history i calls answers) (q.station i)) (sym alike)
+    (subst (λ es. Gives h.rules (fresh_station (h.opens i)) es (q.station i)) (sym same) y)))

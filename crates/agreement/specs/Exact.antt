@@ -101,12 +101,12 @@ module _ (N M : Type 0) where
       → NoneTurnedAway net g calls answers o r x → NoneTurnedAway other g calls others p q y
       → map taken_message answers ≡ map taken_message others → (answers ≡ others) × Alike net other r q
 
-  -- An own station's state is a function of its opening bit and its history: where two rigs go by the same rules, and a
-  -- station of the one has the opening bit and the history of one of the other, the two are in the same state.
+  -- An own station's state is a function of its opening bit and its history: where two rigs go by the same rules, and the
+  -- station has in both the same opening bit and the same history, it is in the same state.
   abbrev pub HistoriesTell : Type 0
   HistoriesTell =
       (net : Network N) (other : Network M) (g h : Setting) → g.rules ≡ h.rules
       → (v : N) (w : M) (calls others : List Call) (answers their : List Answer) (o r : Rig N) (p q : Rig M)
       → Opened net g v o → Opened other h w p → Plays net g calls answers o r → Plays other h others their p q
-      → (i k : ℕ) → Own g i → Own h k → g.opens i ≡ h.opens k → history i calls answers ≡ history k others their
-      → r.station i ≡ q.station k
+      → (i : ℕ) → Own g i → Own h i → g.opens i ≡ h.opens i → history i calls answers ≡ history i others their
+      → r.station i ≡ q.station i

@@ -38,9 +38,14 @@ Changes i s W W' = (W' i ≡ s) × ((k : ℕ) → (k ≡ i) ⊎ (W' k ≡ W k))
 abbrev pub capped_count : ℕ → ℕ
 capped_count m = min 4294967295 m
 
+-- A message's addressee, with n stations and stages up to an end, once the message came to it: one that is not in a set, the
+-- own stations, does not change.
+abbrev pub reached : Set → ℕ → ℕ → Message → Station → Station
+reached own n end m s = if own m.addressee then after_message n end m s else s
+
 -- A message's addressee, once it is delivered: a message to a guest changes nothing.
 abbrev pub addressee_after : Setting → Message → Station → Station
-addressee_after g m s = if is_own g m.addressee then after_message (size g.rules) (stages g.rules) m s else s
+addressee_after g m s = reached (is_own g) (size g.rules) (stages g.rules) m s
 
 -- Nothing changes but the network and what is missing.
 abbrev pub Stays : {N : Type 0} → Rig N → Rig N → Type 0

@@ -1,5 +1,5 @@
-//! The model of the agreement protocol: sets of stations and fault families; one station and its rules; the rig, its
-//! calls and their runs; and the law that every run keeps.
+//! The model of the agreement protocol: sets of stations and fault families; one station and its rules; networks; the
+//! rig, its calls and their runs; and the law that every run keeps.
 //!
 //! `specs/` has the definitions. A function here has no work to do: its contract is a theorem, and the check asks for
 //! the proof.
@@ -54,7 +54,7 @@ pub fn every_run_keeps_the_law<N>()
     ensures { EveryRun N }
 {}
 
-/// After every run an own station is in the state that the rules give for its opening bit, its acts and the messages
+/// After every run an own station is in the state that the rules give for its opening bit, its turns and the messages
 /// that came to it, in their order. No law of the fault rule is needed.
 #[tactic(auto, using(crate::proofs::Histories::stations_follow_rules))]
 pub fn stations_follow_the_rules<N>()

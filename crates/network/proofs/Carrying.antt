@@ -115,3 +115,7 @@ bags_alike v w m s = ap (λ n. leb bag_holds n) (same_length v w s)
 pub lanes_alike : TurnAwayAlike ten_lanes ten_lanes
 lanes_alike v w m s =
     ap (λ n. leb lane_holds n) (same_sums (all_lanes v) (all_lanes w) s (λ x. cond (eqb (lane_of x) (lane_of m)) 1 0))
+
+-- a loan turns away what the network lent does
+pub lent_alike : {N : Type 0} (net : Network N) → TurnAwayAlike net net → TurnAwayAlike (lent net) net
+lent_alike net h v w m s = h v.now w m s

@@ -1,6 +1,6 @@
 //! Messages in ten queues, by addressee.
 
-ghost use Rattle.std.specs.Prelude.{◌≡◌, ◌+◌, ◌%◌, ◌<◌, nat_le, [], ◌∷◌, length, replicate, IfSome, IfNone, is_err, IfOk, OnOk, OnErr};
+ghost use Rattle.std.specs.Prelude.{◌≡◌, ◌+◌, ◌%◌, ◌<◌, nat_le, [], length, replicate, IfSome, IfNone, is_err, IfOk, OnOk, OnErr};
 ghost use Rattle.agreement.specs.Networks.{Clears, Enters, Exits};
 ghost use Rattle.network.specs.Lanes.{lane_of, in_lane, all_lanes, load, ten_lanes, lane_holds, first_filled, lanes_pick};
 

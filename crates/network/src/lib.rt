@@ -94,10 +94,11 @@ pub fn lanes_carry_messages()
     ensures by_what_waits { TurnAwayAlike ten_lanes ten_lanes }
 {}
 
-/// So does each loan of a network that carries messages.
-#[tactic(auto, using(crate::proofs::Carrying::lent_carries))]
+/// So does each loan of a network that carries messages; and it turns away what the network lent does.
+#[tactic(auto, using(crate::proofs::Carrying::lent_carries, crate::proofs::Carrying::lent_alike))]
 pub fn loans_carry_messages<N>()
-    ensures { (net : NetworkOf N) (fit : N → Bool) → Carries net fit → Carries (lent net) (λ r. fit r.now) }
+    ensures carries { (net : NetworkOf N) (fit : N → Bool) → Carries net fit → Carries (lent net) (λ r. fit r.now) }
+    ensures by_what_waits { (net : NetworkOf N) → TurnAwayAlike net net → TurnAwayAlike (lent net) net }
 {}
 
 /// Posts a message and takes one off, the same or another: with fewer messages waiting than the floor there always is

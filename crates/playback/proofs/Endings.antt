@@ -42,14 +42,16 @@ module _ {F N C : Type 0} {f : FaultRule F} {n : Network N} {c : Coin C} where
   -- a rig is opened, its calls are made, and what it came to is told
   pub prints_run : (w : N) (g : Setting) (calls : List Call) (o r : Rig F N C f n c) (outcome : Outcome) (text text' : List ℕ)
       → setting o ≡ g → Opened n.net (setting o) w (view o) → PrintsCalls calls text o r
-      → Tells (setting r) (view r) outcome → text' ≡ text ++ outcome_lines outcome → PrintsRun n.net w g calls text'
-  prints_run w g calls o r outcome text text' same opened p t e = (
+      → Tells (setting r) (view r) outcome → text' ≡ text ++ outcome_lines outcome → (w' : N) → w' ≡ r.network
+      → PrintsRun n.net w g calls w' text'
+  prints_run w g calls o r outcome text text' same opened p t e w' left = (
     view o,
     view r,
     p.0,
     record {
       opened = subst (λ x. Opened n.net x w (view o)) same opened;
       plays = subst (λ x. Plays n.net x calls p.0 (view o) (view r)) same p.1.plays;
+      leaves = left;
       lines = e ∙ ap₂ (λ xs ys. xs ++ ys) p.1.lines (endings (setting r) (view r) outcome t
           ∙ ap (λ x. last_lines x (view r)) (same_setting o r p.1.kept ∙ same));
     },

@@ -25,18 +25,20 @@ use Rattle.playback.specs.Theorems.{RunsPrintOneText, SaysShort, OneText}
 
 -- the answers and what the rig came to are determined, and so are the lines
 pub runs_print_one_text : {N : Type 0} → RunsPrintOneText N
-runs_print_one_text {N} net w g calls text other (o, r, answers, x) (p, q, others, y) =
-    let same = runs_are_determined net g w calls answers others o r p q x.opened y.opened x.plays y.plays in
-    x.lines
-    ∙ ap₂ (λ (xs : List Answer) (t : Rig N). call_lines calls xs ++ last_lines g t) same.1 same.2
-    ∙ sym y.lines
+runs_print_one_text {N} net w g calls v v' text other (o, r, answers, x) (p, q, others, y) =
+    let same = runs_are_determined net g w calls answers others o r p q x.opened y.opened x.plays y.plays in (
+      x.leaves ∙ ap (λ (t : Rig N). t.network) same.2 ∙ sym y.leaves,
+      x.lines
+          ∙ ap₂ (λ (xs : List Answer) (t : Rig N). call_lines calls xs ++ last_lines g t) same.1 same.2
+          ∙ sym y.lines,
+    )
 
 -- a run over a network of either kind prints one text
 over_prints_once : (network : NetworkKind) (g : Setting) (calls : List Call) (text other : List ℕ)
     → PrintsOver network g calls text → PrintsOver network g calls other → text ≡ other
-over_prints_once Bag g calls text other x y = runs_print_one_text bag [] g calls text other x y
-over_prints_once Lanes g calls text other x y =
-    runs_print_one_text ten_lanes (replicate 10 []) g calls text other x y
+over_prints_once Bag g calls text other (v, x) (w, y) = (runs_print_one_text bag [] g calls v w text other x y).1
+over_prints_once Lanes g calls text other (v, x) (w, y) =
+    (runs_print_one_text ten_lanes (replicate 10 []) g calls v w text other x y).1
 
 -- what a run file says is played in a setting
 abbrev setting_in : RunFile → Setting

@@ -1,5 +1,6 @@
 -- What is printed of a run file.
 use Rattle.std.specs.Prelude.{◌≡◌, ℕ, List, [], map, replicate, ◌⊎◌}
+use Rattle.agreement.specs.declared.message.Message.{Message}
 use Rattle.agreement.specs.Station.{Setting}
 use Rattle.agreement.specs.Rig.{Call}
 use Rattle.network.specs.Bags.{bag}
@@ -19,8 +20,8 @@ use Rattle.playback.specs.Runs.{PrintsRun}
 
 -- A run on a rig that is opened over a new network of this kind prints the text.
 abbrev pub PrintsOver : NetworkKind → Setting → List Call → List ℕ → Type 0
-PrintsOver Bag g calls text = PrintsRun bag [] g calls text
-PrintsOver Lanes g calls text = PrintsRun ten_lanes (replicate 10 []) g calls text
+PrintsOver Bag g calls text = (w : List Message) × PrintsRun bag [] g calls w text
+PrintsOver Lanes g calls text = (w : List (List Message)) × PrintsRun ten_lanes (replicate 10 []) g calls w text
 
 -- A run of what a file says prints the text.
 abbrev pub PrintsSaid : RunFile → List ℕ → Type 0

@@ -21,13 +21,14 @@ station_lines g W (suc k) =
 abbrev pub last_lines : {N : Type 0} → Setting → Rig N → List ℕ
 last_lines g r = station_lines g r.station 10 ++ missing_line r.missing
 
--- A run of the calls, on a rig as it is opened over a network in state w, prints the text: a line for each call, and the
--- last lines.
-pub record PrintedBy {N : Type 0} (net : Network N) (w : N) (g : Setting) (calls : List Call) (answers : List Answer) (text : List ℕ) (o r : Rig N) : Type 0 where
+-- A run of the calls, on a rig as it is opened over a network in state w, leaves the network in state w' and prints the
+-- text: a line for each call, and the last lines.
+pub record PrintedBy {N : Type 0} (net : Network N) (w : N) (g : Setting) (calls : List Call) (answers : List Answer) (w' : N) (text : List ℕ) (o r : Rig N) : Type 0 where
   pub opened : Opened net g w o
   pub plays : Plays net g calls answers o r
+  pub leaves : w' ≡ r.network
   pub lines : text ≡ call_lines calls answers ++ last_lines g r
 
 -- So it is for some rig as it is opened, and for what it came to, with some answers.
-abbrev pub PrintsRun : {N : Type 0} → Network N → N → Setting → List Call → List ℕ → Type 0
-PrintsRun {N} net w g calls text = (o r : Rig N) × (answers : List Answer) × PrintedBy net w g calls answers text o r
+abbrev pub PrintsRun : {N : Type 0} → Network N → N → Setting → List Call → N → List ℕ → Type 0
+PrintsRun {N} net w g calls w' text = (o r : Rig N) × (answers : List Answer) × PrintedBy net w g calls answers w' text o r

@@ -7,11 +7,12 @@ use Rattle.transcript.specs.Lines.{refusal_line}
 use Rattle.playback.specs.Runs.{PrintsRun}
 use Rattle.playback.specs.Files.{PrintsFile}
 
--- A run prints one text: the same calls, on rigs that are opened alike over a network in one state.
+-- A run prints one text, and leaves its network in one state: the same calls, on rigs that are opened alike over a network
+-- in one state.
 abbrev pub RunsPrintOneText : Type 0 → Type 0
 RunsPrintOneText N =
-    (net : Network N) (w : N) (g : Setting) (calls : List Call) (text other : List ℕ)
-    → PrintsRun net w g calls text → PrintsRun net w g calls other → text ≡ other
+    (net : Network N) (w : N) (g : Setting) (calls : List Call) (v v' : N) (text other : List ℕ)
+    → PrintsRun net w g calls v text → PrintsRun net w g calls v' other → (v ≡ v') × (text ≡ other)
 
 -- A text says that memory is short: it is the line of a fault with number 51.
 abbrev pub SaysShort : List ℕ → Type 0

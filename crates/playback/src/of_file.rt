@@ -36,8 +36,14 @@ fn play_file(heap: Global, run: RunFile) -> Result<Vec<u8>, AllocError>
     } = run;
     let calls = calls.as_slice();
     match network {
-        NetworkKind::Bag => play(heap, setup, rule, Bag::new(heap)?, coin, calls),
-        NetworkKind::Lanes => play(heap, setup, rule, Lanes::new(heap)?, coin, calls),
+        NetworkKind::Bag => {
+            let (_, text) = play(heap, setup, rule, Bag::new(heap)?, coin, calls)?;
+            Ok(text)
+        }
+        NetworkKind::Lanes => {
+            let (_, text) = play(heap, setup, rule, Lanes::new(heap)?, coin, calls)?;
+            Ok(text)
+        }
     }
 }
 

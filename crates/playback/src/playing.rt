@@ -17,7 +17,8 @@ use rig::{Outcome, Rig, Setup, StationOutcome};
 use std::alloc::{AllocError, Global};
 use transcript::{LINE, LineFault, play_call, put_missing, put_station};
 
-/// Opens a rig, makes every call of a list, and closes it: the transcript, or that there is no memory for it.
+/// Opens a rig, makes every call of a list, and closes it: the network as the rig left it, and the transcript; or that there
+/// is no memory for it.
 pub fn play<F: FaultRule + Drop, N: Network + Drop, C: Coin + Drop>(
     heap: Global,
     setup: Setup,
@@ -25,15 +26,15 @@ pub fn play<F: FaultRule + Drop, N: Network + Drop, C: Coin + Drop>(
     network: N,
     coin: C,
     calls: &[Call],
-) -> Result<Vec<u8>, AllocError>
-    ensures { IfOk result (λ text. PrintsRun N.net network
-        (setting_of (F.families rule) setup (C.bits coin)) (map call_of calls.now) text.items) }
+) -> Result<(N, Vec<u8>), AllocError>
+    ensures { IfOk result (λ played. PrintsRun N.net network
+        (setting_of (F.families rule) setup (C.bits coin)) (map call_of calls.now) played.0 played.1.items) }
 {
     let mut rig = setup.open(rule, network, coin);
     let mut text = play_calls(heap, &mut rig, calls)?;
-    let (_, outcome) = rig.close();
+    let (network, outcome) = rig.close();
     add_outcome(&mut text, &outcome)?;
-    Ok(text)
+    Ok((network, text))
 }
 
 // Makes every call of a list, and answers their lines.

@@ -1,6 +1,6 @@
 //! A network that no list of what waits could tell.
 
-ghost use Rattle.std.specs.Prelude.{◌≡◌, [], true, false, length, IfSome, IfNone, is_err, IfOk, OnOk, OnErr};
+ghost use Rattle.std.specs.Prelude.{◌≡◌, [], true, false, IfSome, IfNone, is_err, IfOk, OnOk, OnErr};
 ghost use Rattle.agreement.specs.declared.message.Message.{Message as Sent};
 ghost use Rattle.agreement.specs.Networks.{Enters, Exits, Carries};
 ghost use Rattle.agreement.specs.Exact.{TurnAwayAlike};

@@ -1,10 +1,10 @@
 -- The stations' records, read as the model's stations.
-use Rattle.std.specs.Prelude.{◌≡◌, ℕ, replicate, slice_index_or, true, if◌then◌else◌, None, option_map}
+use Rattle.std.specs.Prelude.{◌≡◌, ℕ, replicate, slice_index_or, true, None, option_map}
 use Rattle.agreement.specs.declared.message.Message.{Message}
 use Rattle.agreement.specs.Sets.{Set}
 use Rattle.agreement.specs.Station.{Rules, fresh_station, after_message, Idle, Due, after_act, speech}
 use Rattle.agreement.specs.Station as model
-use Rattle.agreement.specs.Rig.{Changes}
+use Rattle.agreement.specs.Rig.{Changes, reached}
 use Rattle.acts.specs.declared.act.Turn.{Turn}
 use Rattle.acts.specs.Acts.{act_of}
 use Rattle.acts.specs.Payloads.{payload_of}
@@ -38,8 +38,7 @@ Records n end m t t' = Changes m.addressee (after_message n end m (station_in t 
 -- A message goes to its addressee, who records it if it is in a set, and no other station changes.
 abbrev pub Receives : Set → ℕ → ℕ → Message → StationTable → StationTable → Type 0
 Receives own n end m t t' =
-    let s = station_in t m.addressee in
-    Changes m.addressee (if own m.addressee then after_message n end m s else s) (station_in t) (station_in t')
+    Changes m.addressee (reached own n end m (station_in t m.addressee)) (station_in t) (station_in t')
 
 -- Station i does the act that is due there, and no other station changes; what is to be said is what the act says.
 pub record DoesDueActAt (i : ℕ) (g : Rules) (t t' : StationTable) (turn : Turn) : Type 0 where
