@@ -14,10 +14,11 @@ impl RuleBody {
     pub fn make(&self, heap: Global) -> Result<Rule, Fault>
         ensures { BodyMade self.now result }
     {
+        // No `map`: it copies the result several times.
         match self {
-            RuleBody::Threshold { n, s, a } => Threshold::new(*n, *s, *a).map(Rule::Threshold),
+            RuleBody::Threshold { n, s, a } => Ok(Rule::Threshold(Threshold::new(*n, *s, *a)?)),
             RuleBody::Listed { n, wide, narrow } => {
-                Listed::new(heap, *n, wide, narrow).map(Rule::Listed)
+                Ok(Rule::Listed(Listed::new(heap, *n, wide, narrow)?))
             }
         }
     }

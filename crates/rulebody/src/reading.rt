@@ -76,17 +76,18 @@ impl RuleBody {
     pub fn read(heap: Global, bytes: &[u8]) -> Result<RuleBody, Fault>
         ensures { BodyRead bytes.now result }
     {
-        match bytes {
-            [THRESHOLD, n, s, a] => Ok(RuleBody::Threshold {
+        // Each case returns by itself: the value of one match over all three would be put together, and copied, at its end.
+        if let [THRESHOLD, n, s, a] = bytes {
+            return Ok(RuleBody::Threshold {
                 n: *n,
                 s: *s,
                 a: *a,
-            }),
-            [LISTED, n, wide, narrow, sets @ ..] => {
-                let pairs = pairs(sets).ok_or(Fault::Form)?;
-                read_lists(heap, *n, *wide, *narrow, pairs)
-            }
-            _ => Err(Fault::Form),
+            });
         }
+        if let [LISTED, n, wide, narrow, sets @ ..] = bytes {
+            let pairs = pairs(sets).ok_or(Fault::Form)?;
+            return read_lists(heap, *n, *wide, *narrow, pairs);
+        }
+        Err(Fault::Form)
     }
 }
